@@ -1,8 +1,8 @@
-//! Changes of documents: an arrival, and a deletion.
+//! Changes of documents, an arrival and a deletion; and the mark of a journal that may have batches.
 ghost use Rattle.std.specs.Prelude.{◌≡◌, ◌<◌, ◌^◌, length, Option, None, IsTrue, IfOk, OnOk};
 ghost use Rattle.journal_gates.specs.Crash.{KeepsPages};
 ghost use Rattle.model_archive.specs.Histories.{History};
-ghost use Rattle.model_archive.specs.Steps.{arrival_refusal, deletion_refusal};
+ghost use Rattle.model_archive.specs.Steps.{arrival_refusal, deletion_refusal, mark_refusal};
 ghost use Rattle.archive_hand.specs.States.{StandsFor, AreInStepBy, Reaches, with_entry};
 ghost use Rattle.archive_hand.specs.Changing.{LeadsBy};
 ghost use Rattle.archive_hand.specs.Stored.{Store};
@@ -86,6 +86,31 @@ pub fn delete<D: Disk>(
 {
     let prepared = archive.deletion(alloc, doc, at);
     add(alloc, disk, archive, prepared)
+}
+
+/// Marks the journal as one that may have batches, and answers how many entries there are. At `Ok` the
+/// mark is durable: each image that a stop may leave has it. All memory is taken before the first write.
+///
+/// `Refused`: for the first cause in order, the journal has the mark, or it is full. Nothing was changed.
+/// `Failed`, `Memory`: the archive is spent, and keeps what it had.
+/// Costs two synced writes.
+pub fn mark_format<D: Disk>(
+    alloc: Global,
+    disk: &mut D,
+    archive: &mut Archive,
+) -> Result<u64, ChangeError>
+    requires live { IsTrue archive.old.live }
+    requires within { Reaches (D.disk disk.old).reach archive.old }
+    ensures only { D.Disk.only disk.old disk.new }
+    ensures after { AfterChange D.disk_tells ((archive.new ≡ archive.old) × (disk.new ≡ disk.old)) (disk.new ≡ disk.old) result (D.disk disk.old) (D.disk disk.new) archive.old archive.new }
+    // On any disk: a refusal is the first cause in order, comes wherever there is one (unless memory runs out), and changes nothing; at Ok
+    // the archive stands for the history with the new entry, and answers how many entries there are.
+    ensures adds { (h : History) → StandsFor archive.old h → Adds h entries.Format (mark_refusal h) result archive.new }
+    // In step by what reads give, whatever lies in Pages, it is a step; each image left since stands for what was before it or after it.
+    ensures by_reads { D.disk_tells → (s : Store) → AreInStepBy (D.disk disk.old) archive.old s → TakesBy s (items.Command commands.Format) (changed result) (D.disk disk.old) (D.disk disk.new) archive.new }
+    ensures pages { D.disk_tells → KeepsPages (D.disk disk.old) (D.disk disk.new) }
+{
+    archive.mark(alloc, disk)
 }
 
 // Adds what was prepared, or hands on why it was not.

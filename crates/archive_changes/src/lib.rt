@@ -1,4 +1,4 @@
-//! The changes of an open archive: a version arrives, a document ends, a plan is stored.
+//! The changes of an open archive: a version arrives, a document ends, the journal is marked, a plan is stored.
 //!
 //! Each change leaves images that stand for the history before it or for that and the new entry, and
 //! after Ok for the latter alone; a refused one changes nothing (`specs/After.antt`). What is
@@ -9,5 +9,5 @@ mod changing;
 mod planning;
 
 pub use archive_plans::PlanReport;
-pub use changing::{arrive, delete};
+pub use changing::{arrive, delete, mark_format};
 pub use planning::plan;

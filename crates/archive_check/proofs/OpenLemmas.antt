@@ -11,7 +11,7 @@ use Rattle.lists_versions.specs.Changes.{mapped}
 use Rattle.journal_entries.specs.Spelling.{spelling}
 use Rattle.journal_entries.specs.PlanSpelling.{IsPlanEntry}
 use Rattle.journal_entries.specs.declared.entry.Entry.{Entry}
-use Rattle.journal_entries.specs.declared.entry.Entry.TheVariants.{Arrive, Delete, Planned}
+use Rattle.journal_entries.specs.declared.entry.Entry.TheVariants.{Arrive, Delete, Planned, Format}
 use Rattle.plans_kinds.specs.Plans.{IsFitFor}
 use Rattle.model_archive.specs.declared.stored.StoredPlan.{StoredPlan}
 use Rattle.model_archive.specs.Histories.{History, end_of}
@@ -43,6 +43,7 @@ one_lies : (end gate : ℕ) (e : Entry) → gate + 5 + length (spelling e) ≤ e
 one_lies end gate (Arrive doc t text) within = All-cons (λ c. LiesBy end c.held) _ [] (omega (arith, within)) (All-nil (λ c. LiesBy end c.held))
 one_lies end gate (Delete doc t) within = All-cons (λ c. LiesBy end c.held) _ [] tt (All-nil (λ c. LiesBy end c.held))
 one_lies end gate (Planned plan) within = All-nil (λ c. LiesBy end c.held)
+one_lies end gate Format within = All-nil (λ c. LiesBy end c.held)
 
 places_lie : (end gate : ℕ) (h : History) → gate + sum_by (λ (x : Entry). length (spelling x) + 5) h ≤ end → All (λ c. LiesBy end c.held) (places gate h)
 places_lie end gate [] within = All-nil (λ c. LiesBy end c.held)
@@ -66,6 +67,7 @@ live_entries : (before : History) (gate : ℕ) (live : List StoredPlan) (h : His
 live_entries before gate live [] each all = all
 live_entries before gate live (Arrive doc at text ∷ h) each all = live_entries (before ++ Arrive doc at text ∷ []) (gate + 5 + length (spelling (Arrive doc at text))) live h each.1 all
 live_entries before gate live (Delete doc at ∷ h) each all = live_entries (before ++ Delete doc at ∷ []) (gate + 5 + length (spelling (Delete doc at))) live h each.1 all
+live_entries before gate live (Format ∷ h) each all = live_entries (before ++ Format ∷ []) (gate + 5 + length (spelling Format)) live h each.1 all
 live_entries before gate live (Planned plan ∷ h) each all =
     let new : StoredPlan = record { gate = gate; plan = plan } in
     live_entries (before ++ Planned plan ∷ []) (gate + 5 + length (spelling (Planned plan))) (with_plan live new) h each.1

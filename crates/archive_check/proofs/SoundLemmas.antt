@@ -14,7 +14,7 @@ use Rattle.lists_versions.specs.declared.change.Change.{Change}
 use Rattle.lists_index.specs.Words.{words_in}
 use Rattle.plans_kinds.specs.Plans.{IsFitFor, IsLeastPlan}
 use Rattle.journal_entries.specs.declared.entry.Entry.{Entry}
-use Rattle.journal_entries.specs.declared.entry.Entry.TheVariants.{Arrive, Delete, Planned}
+use Rattle.journal_entries.specs.declared.entry.Entry.TheVariants.{Arrive, Delete, Planned, Format}
 use Rattle.journal_entries.specs.declared.place.Layout.{Layout}
 use Rattle.journal_entries.specs.declared.place.Place.{Place}
 use Rattle.journal_entries.specs.declared.plan.PlanEntry.{PlanEntry}
@@ -50,6 +50,7 @@ entry_text : (before : History) (e : Entry) → MayCome IsFitFor before e → Al
 entry_text before (Arrive doc at text) may = All-cons IsText _ [] may.ranges.3 (All-nil IsText)
 entry_text before (Delete doc at) may = All-cons IsText _ [] tt (All-nil IsText)
 entry_text before (Planned plan) may = All-nil IsText
+entry_text before Format may = All-nil IsText
 
 texts_good : (before h : History) → EachMayCome IsFitFor before h → All IsText (changes h)
 texts_good before [] each = All-nil IsText

@@ -15,7 +15,7 @@ use Rattle.lists_versions.specs.Tests.{first_of, when}
 use Rattle.lists_versions.proofs.Latest.{changes_of-same, changes_of-other, last_of-cons, last_time-push}
 use Rattle.lists_versions.proofs.Indexed.{same-is}
 use Rattle.journal_entries.specs.declared.entry.Entry.{Entry}
-use Rattle.journal_entries.specs.declared.entry.Entry.TheVariants.{Arrive, Delete, Planned}
+use Rattle.journal_entries.specs.declared.entry.Entry.TheVariants.{Arrive, Delete, Planned, Format}
 use Rattle.plans_kinds.specs.Plans.{IsFitFor}
 use Rattle.model_archive.specs.Histories.{History, changes, acts, entry_refusal, entry_keys, vocabulary, full_words}
 use Rattle.model_archive.specs.Legal.{IsLoadable}
@@ -33,7 +33,7 @@ use Rattle.journal_entries.specs.declared.plan.PlanEntry.{PlanEntry}
 use Rattle.model_archive.specs.declared.refusal.Refusal.TheVariants.{Full}
 use Rattle.model_archive.specs.Plans.{IsNoPlan}
 use Rattle.model_archive.specs.Answers.{IsWordList}
-use Rattle.archive_entries.specs.Entries.{Makes, document_of, time_of, text_of}
+use Rattle.archive_entries.specs.Entries.{IsChange, Makes, document_of, time_of, text_of}
 
 -- each next, with one element more
 each_push : {X : Type 0} (R : X → X → Type 0) (xs : List X) (x : X) → EachNext R xs → ((l : X) → last_of xs ≡ Some l → R l x) → EachNext R (xs ++ x ∷ [])
@@ -129,6 +129,7 @@ rising_more before (e ∷ h) allowed was =
         let three = none_found (same_time doc at cs) (full_versions cs ∷ []) two.1 in
         rising_push cs (record { doc = doc; at = at; held = None }) was one.0 three.0
     go (Planned plan) next = let C : List (Change (List ℕ)) → Type 0 = λ cs. IsRising cs in subst C (sym (append-nil (changes before))) was
+    go Format next = let C : List (Change (List ℕ)) → Type 0 = λ cs. IsRising cs in subst C (sym (append-nil (changes before))) was
 
 pub allowed_rises : (h : History) → EachAllowed [] h → RiseByDocument (changes h)
 allowed_rises h allowed = (rising_more [] h allowed (record { last = 0; all = All-nil (λ c. c.at.seconds ≤ 0); back = λ at none. omega arith; rise = λ doc. tt })).rise
@@ -142,17 +143,21 @@ loadable_rises h loads = allowed_rises h (come_allowed IsFitFor [] h loads)
 abbrev pub change_of : Entry → Change (List ℕ)
 change_of e = record { doc = document_of e; at = time_of e; held = text_of e }
 
-acts_are : (e : Entry) → IsNoPlan e → acts e ≡ change_of e ∷ []
+acts_are : (e : Entry) → IsChange e → acts e ≡ change_of e ∷ []
 acts_are (Arrive doc at text) change = refl
 acts_are (Delete doc at) change = refl
 acts_are (Planned plan) change = absurd change
+acts_are Format change = absurd change
 
-pub changes_more : (h : History) (e : Entry) → IsNoPlan e → changes (h ++ e ∷ []) ≡ changes h ++ change_of e ∷ []
+pub changes_more : (h : History) (e : Entry) → IsChange e → changes (h ++ e ∷ []) ≡ changes h ++ change_of e ∷ []
 changes_more h e change = changes-push h e ∙ ap (λ (l : List (Change (List ℕ))). changes h ++ l) (acts_are e change)
 
--- a plan changes no document
+-- a plan changes no document, and neither does the mark
 pub changes_still : (h : History) (plan : PlanEntry) → changes (h ++ Planned plan ∷ []) ≡ changes h
 changes_still h plan = changes-push h (Planned plan) ∙ append-nil (changes h)
+
+pub changes_marked : (h : History) → changes (h ++ Format ∷ []) ≡ changes h
+changes_marked h = changes-push h Format ∙ append-nil (changes h)
 
 -- the words of a history are those of its changes
 keys_are : (h : History) → flat_map entry_keys h ≡ flat_map index.keys_in (changes h)
@@ -160,17 +165,18 @@ keys_are [] = refl
 keys_are (Arrive doc at text ∷ h) = ap (λ (l : List (List ℕ)). entry_keys (Arrive doc at text) ++ l) (keys_are h)
 keys_are (Delete doc at ∷ h) = keys_are h
 keys_are (Planned plan ∷ h) = keys_are h
+keys_are (Format ∷ h) = keys_are h
 
 pub words_are : (h : History) → vocabulary h ≡ index.words_in (changes h)
 words_are h = ap distinct (keys_are h)
 
-words_more : (h : History) (e : Entry) → IsNoPlan e → vocabulary (h ++ e ∷ []) ≡ index.words_in (changes h ++ change_of e ∷ [])
+words_more : (h : History) (e : Entry) → IsChange e → vocabulary (h ++ e ∷ []) ≡ index.words_in (changes h ++ change_of e ∷ [])
 words_more h e change = words_are (h ++ e ∷ []) ∙ ap index.words_in (changes_more h e change)
 
-pub words_full : (h : History) (e : Entry) → IsNoPlan e → 2 ^ 20 < length (index.words_in (changes h ++ change_of e ∷ [])) → full_words h e ≡ Some (Full Words (limit_of Words))
+pub words_full : (h : History) (e : Entry) → IsChange e → 2 ^ 20 < length (index.words_in (changes h ++ change_of e ∷ [])) → full_words h e ≡ Some (Full Words (limit_of Words))
 words_full h e change over = too_many_words h e (omega (arith, over, ap length (words_more h e change)))
 
-pub words_within : (h : History) (e : Entry) → IsNoPlan e → length (index.words_in (changes h ++ change_of e ∷ [])) ≤ 2 ^ 20 → full_words h e ≡ None
+pub words_within : (h : History) (e : Entry) → IsChange e → length (index.words_in (changes h ++ change_of e ∷ [])) ≤ 2 ^ 20 → full_words h e ≡ None
 words_within h e change within = words_fit h e (omega (arith, within, ap length (words_more h e change)))
 
 -- an entry that is legal comes later than its document's earlier changes
@@ -181,23 +187,25 @@ before_last c (d ∷ e ∷ cs) each =
     let rest = before_last c (e ∷ cs) each.1 in
     All-cons (λ x. x.at.seconds < c.at.seconds) d (e ∷ cs) (omega (arith, each.0, All-head (λ (x : Change (List ℕ)). x.at.seconds < c.at.seconds) e cs rest)) rest
 
-pub comes_later : (h : History) (e : Entry) → IsNoPlan e → EachAllowed [] h → entry_refusal h e ≡ None → ComesLater (changes h) (change_of e)
+pub comes_later : (h : History) (e : Entry) → IsChange e → EachAllowed [] h → entry_refusal h e ≡ None → ComesLater (changes h) (change_of e)
 comes_later h e change allowed next =
     let C : List (Change (List ℕ)) → Type 0 = λ l. EachNext (λ a b. a.at.seconds < b.at.seconds) l in
     let rises = allowed_rises (h ++ e ∷ []) (allowed_push [] h e allowed next) (document_of e) in
     before_last (change_of e) (changes_of (document_of e) (changes h))
     (subst C (ap (changes_of (document_of e)) (changes_more h e change) ∙ changes_of-same (document_of e) (changes h) (change_of e) (eq-eqb (document_of e).0 (document_of e).0 refl)) rises)
 
-pub makes_is_change : (e : Entry) (x : Change ℕ) → Makes e x → IsNoPlan e
+pub makes_is_change : (e : Entry) (x : Change ℕ) → Makes e x → IsChange e
 makes_is_change (Arrive doc at text) x makes = tt
 makes_is_change (Delete doc at) x makes = tt
 makes_is_change (Planned plan) x makes = absurd makes
+makes_is_change Format x makes = absurd makes
 
 -- a change that an entry makes, with the entry's text
 pub makes_change : (e : Entry) (x : Change ℕ) (text : Option (List ℕ)) → Makes e x → text ≡ text_of e → change_of e ≡ record { doc = x.doc; at = x.at; held = text }
 makes_change (Arrive doc at text) x held makes same = let one = makes.0 in let two = makes.1 in cc
 makes_change (Delete doc at) x held makes same = let one = makes.0 in let two = makes.1 in cc
 makes_change (Planned plan) x held makes same = absurd makes
+makes_change Format x held makes same = absurd makes
 
 -- so whatever takes such a change takes the entry's
 pub takes_change : (P : List (Change (List ℕ)) → Type 0) (h : History) (e : Entry) (x : Change ℕ) (text : Option (List ℕ)) → Makes e x → text ≡ text_of e → EachAllowed [] h → entry_refusal h e ≡ None
@@ -209,6 +217,12 @@ takes_change P h e x text makes same allowed next take =
     let C : Change (List ℕ) → Type 0 = λ c. P (changes h ++ c ∷ []) in
     subst P (sym (changes_more h e change)) (subst C (sym is) (take (subst L is (comes_later h e change allowed next))))
 
+no_plan : (e : Entry) → IsChange e → IsNoPlan e
+no_plan (Arrive doc at text) change = tt
+no_plan (Delete doc at) change = tt
+no_plan (Planned plan) change = absurd change
+no_plan Format change = absurd change
+
 -- the change of an entry that may come behind a history that loads
 pub change_comes : (h : History) (e : Entry) (x : Change ℕ) → IsLoadable h → entry_refusal h e ≡ None → Makes e x
     → IsNoPlan e × (changes (h ++ e ∷ []) ≡ changes h ++ record { doc = x.doc; at = x.at; held = text_of e } ∷ []) × ComesLater (changes h) (record { doc = x.doc; at = x.at; held = text_of e })
@@ -216,7 +230,7 @@ change_comes h e x loads next makes =
     let change = makes_is_change e x makes in
     let is = makes_change e x (text_of e) makes refl in
     let L : Change (List ℕ) → Type 0 = λ c. ComesLater (changes h) c in (
-      change,
+      no_plan e change,
       changes_more h e change ∙ ap (λ (c : Change (List ℕ)). changes h ++ c ∷ []) is,
       subst L is (comes_later h e change (come_allowed IsFitFor [] h loads) next),
     )

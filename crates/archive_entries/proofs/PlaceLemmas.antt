@@ -13,7 +13,7 @@ use Rattle.lists_versions.specs.Refusals.{arrive_refusal, delete_refusal}
 use Rattle.lists_versions.proofs.Mapped.{arrive_refusal-mapped, delete_refusal-mapped}
 use Rattle.journal_entries.specs.Spelling.{spelling}
 use Rattle.journal_entries.specs.declared.entry.Entry.{Entry}
-use Rattle.journal_entries.specs.declared.entry.Entry.TheVariants.{Arrive, Delete, Planned}
+use Rattle.journal_entries.specs.declared.entry.Entry.TheVariants.{Arrive, Delete, Planned, Format}
 use Rattle.journal_entries.specs.declared.plan.PlanEntry.{PlanEntry}
 use Rattle.model_archive.specs.Histories.{History, changes, end_of}
 use Rattle.archive_entries.specs.Texts.{nothing, bare, text_in}
@@ -45,6 +45,7 @@ places_bare gate (Arrive doc at text ∷ h) =
 places_bare gate (Delete doc at ∷ h) =
     ap (λ (cs : List (Change (Unit {0}))). record { doc = doc; at = at; held = None } ∷ cs) (places_bare (gate + 5 + length (spelling (Delete doc at))) h)
 places_bare gate (Planned plan ∷ h) = places_bare (gate + 5 + length (spelling (Planned plan))) h
+places_bare gate (Format ∷ h) = places_bare (gate + 5 + length (spelling Format)) h
 
 pub bare_changes : (gate : ℕ) (h : History) (cs : List (Change TextPlace)) → ArePlaced gate h cs → map bare cs ≡ map bare (changes h)
 bare_changes gate h cs placed = sym (pairs_bare cs) ∙ ap (λ (l : List (Change (ℕ × ℕ))). map bare l) placed ∙ places_bare gate h
@@ -85,6 +86,7 @@ makes_placed (Delete doc at) gate x held makes is =
     let none : option_map pair_of held ≡ None = is ∙ ap (λ (o : Option ℕ). option_map (λ n. (gate + 18, n)) o) makes.2 in
     cc
 makes_placed (Planned plan) gate x held makes is = absurd makes
+makes_placed Format gate x held makes is = absurd makes
 
 -- so the change of an entry comes behind those of the entries before it
 pub placed_more : (h : History) (cs : List (Change TextPlace)) (e : Entry) (x : Change ℕ) (held : Option TextPlace) (gate : ℕ) → ArePlaced 16 h cs → end_of h ≡ gate + 1 → Makes e x
@@ -92,11 +94,18 @@ pub placed_more : (h : History) (cs : List (Change TextPlace)) (e : Entry) (x : 
 placed_more h cs e x held gate placed at makes is =
     placed_behind 16 gate h (e ∷ []) cs (record { doc = x.doc; at = x.at; held = held } ∷ []) placed (omega (arith, at)) (makes_placed e gate x held makes is)
 
--- a plan more is no change more
+-- a plan more is no change more, and neither is the mark
+placed_still : (h : History) (cs : List (Change TextPlace)) (e : Entry) → ((gate : ℕ) → placed_by gate e ≡ []) → ArePlaced 16 h cs → ArePlaced 16 (h ++ e ∷ []) cs
+placed_still h cs e none placed =
+    let P : List (Change TextPlace) → Type 0 = λ l. ArePlaced 16 (h ++ e ∷ []) l in
+    let last = 16 + sum_by (λ (x : Entry). length (spelling x) + 5) h in
+    subst P (append-nil cs) (placed_behind 16 last h (e ∷ []) cs [] placed refl (sym (append-nil (placed_by last e) ∙ none last)))
+
 pub placed_plan : (h : History) (cs : List (Change TextPlace)) (plan : PlanEntry) → ArePlaced 16 h cs → ArePlaced 16 (h ++ Planned plan ∷ []) cs
-placed_plan h cs plan placed =
-    let P : List (Change TextPlace) → Type 0 = λ l. ArePlaced 16 (h ++ Planned plan ∷ []) l in
-    subst P (append-nil cs) (placed_behind 16 (16 + sum_by (λ (x : Entry). length (spelling x) + 5) h) h (Planned plan ∷ []) cs [] placed refl refl)
+placed_plan h cs plan placed = placed_still h cs (Planned plan) (λ gate. refl) placed
+
+pub placed_mark : (h : History) (cs : List (Change TextPlace)) → ArePlaced 16 h cs → ArePlaced 16 (h ++ Format ∷ []) cs
+placed_mark h cs placed = placed_still h cs Format (λ gate. refl) placed
 
 -- ---- texts by their places
 
@@ -154,6 +163,7 @@ entry_texts : (journal : List ℕ) (gate : ℕ) (e : Entry) (h : History)
 entry_texts journal gate (Arrive doc t text) h there behind = let is = there doc t text refl in cc
 entry_texts journal gate (Delete doc t) h there behind = ap (λ (cs : List (Change (List ℕ))). record { doc = doc; at = t; held = None } ∷ cs) behind
 entry_texts journal gate (Planned plan) h there behind = behind
+entry_texts journal gate Format h there behind = behind
 
 -- so it is of all entries, wherever their records stand in the journal
 places_texts : (pre : List ℕ) (gate : ℕ) (h : History) (rest : List ℕ) → gate ≡ length pre → map (mapped (bytes_by (pre ++ (records (bodies_of h) ++ rest)))) (places gate h) ≡ changes h

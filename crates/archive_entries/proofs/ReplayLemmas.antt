@@ -1,5 +1,5 @@
 -- Going over entries: one entry more, and one that is refused.
-use Rattle.std.proofs.Common.{◌≡◌, ℕ, ◌+◌, ◌<◌, ◌≤◌, ◌^◌, Bool, IsTrue, ◌↔◌, List, [], ◌∷◌, ◌++◌, length, sum_by, unwrap_or, Option, Some, None, IsSome, inr, refl, ap, subst, sym, ◌∙◌, arith, append_assoc, append-nil}
+use Rattle.std.proofs.Common.{◌≡◌, ℕ, ◌+◌, ◌<◌, ◌≤◌, ◌^◌, Bool, true, false, IsTrue, ◌↔◌, List, [], ◌∷◌, ◌++◌, length, sum_by, unwrap_or, Option, Some, None, IsSome, inr, refl, ap, subst, sym, ◌∙◌, arith, append_assoc, append-nil}
 use Rattle.machine_model.specs.States.{DiskState}
 use Rattle.machine_model.specs.Calls.{OnlyReads}
 use Rattle.journal_gates.specs.declared.head.Head.{Head}
@@ -16,7 +16,7 @@ use Rattle.lists_versions.specs.declared.refusal.VersionRefusal.{VersionRefusal}
 use Rattle.lists_versions.specs.Refusals.{arrive_refusal, delete_refusal}
 use Rattle.journal_entries.specs.Spelling.{spelling, IsEntry}
 use Rattle.journal_entries.specs.declared.entry.Entry.{Entry}
-use Rattle.journal_entries.specs.declared.entry.Entry.TheVariants.{Arrive, Delete, Planned}
+use Rattle.journal_entries.specs.declared.entry.Entry.TheVariants.{Arrive, Delete, Planned, Format}
 use Rattle.std.specs.Option.{option_map}
 use Rattle.model_archive.specs.Refusals.{refusal_of}
 use Rattle.lists_versions.specs.Tests.{first_of}
@@ -24,10 +24,10 @@ use Rattle.lists_index.specs.Words.{words_in}
 use Rattle.lists_index.specs.Indexing.{ComesLater}
 use Rattle.lists_index.specs.Loads.{Loaded, AreLoaded}
 use Rattle.model_archive.specs.declared.refusal.Refusal.{Refusal}
+use Rattle.model_archive.specs.declared.refusal.Refusal.TheVariants.{HasFormat}
 use Rattle.model_archive.specs.declared.stored.StoredPlan.{StoredPlan}
-use Rattle.model_archive.specs.Histories.{History, changes, end_of, entry_refusal}
+use Rattle.model_archive.specs.Histories.{History, changes, end_of, entry_refusal, is_mark, is_marked}
 use Rattle.model_archive.specs.Legal.{MayBePlanned}
-use Rattle.model_archive.specs.Plans.{IsNoPlan}
 use Rattle.model_archive.proofs.LiveLemmas.{EachAllowed}
 use Rattle.model_archive.proofs.StoringLemmas.{list_behind}
 use Rattle.archive_entries.specs.Texts.{nothing}
@@ -37,13 +37,13 @@ use Rattle.lists_versions.specs.Changes.{last_time}
 use Rattle.lists_versions.proofs.Mapped.{last_time-mapped}
 use Rattle.std.proofs.lemmas.List.Sums.{sum_by-cons}
 use Rattle.model_archive.specs.Stands.{bodies_of}
-use Rattle.model_archive.proofs.HistoryLemmas.{bodies_of-push, end_of-push, end_of_is}
+use Rattle.model_archive.proofs.HistoryLemmas.{bodies_of-push, end_of-push, end_of_is, marked_push, unmarked_push}
 use Rattle.archive_entries.specs.Places.{ArePlaced}
-use Rattle.model_archive.proofs.RefusalLemmas.{arrival-refused, arrival-words}
-use Rattle.archive_entries.specs.Entries.{Makes, IsHeld, change_refusal, text_of}
-use Rattle.archive_entries.proofs.IndexLemmas.{change_of, changes_still, makes_change, makes_is_change, takes_change, words_full, words_within}
+use Rattle.model_archive.proofs.RefusalLemmas.{arrival-refused, arrival-words, when_false}
+use Rattle.archive_entries.specs.Entries.{IsChange, Makes, IsHeld, change_refusal, text_of}
+use Rattle.archive_entries.proofs.IndexLemmas.{change_of, changes_marked, changes_still, makes_change, makes_is_change, takes_change, words_full, words_within}
 use Rattle.archive_entries.specs.Replaying.{IsTimely, IfTimely, IsOpen, AreOpen, plans_in, plans_from, IsReached, IsGoneOver, IsFaulty, IsReplaying, IsNextBad}
-use Rattle.archive_entries.proofs.PlaceLemmas.{bare_changes, placed_more, placed_plan, placed_arrive_refusal, placed_delete_refusal}
+use Rattle.archive_entries.proofs.PlaceLemmas.{bare_changes, placed_mark, placed_more, placed_plan, placed_arrive_refusal, placed_delete_refusal}
 
 -- ---- entries that may come as far as is asked at once
 
@@ -68,11 +68,12 @@ plans_after gate last (x ∷ h) e at =
 plans_push : (h : History) (e : Entry) (gate : ℕ) → end_of h ≡ gate + 1 → plans_from 16 (h ++ e ∷ []) ≡ plans_from 16 h ++ plans_in gate e
 plans_push h e gate at = plans_after 16 gate h e (omega (arith, at))
 
--- a change is timely, and no plan
-timely_change : (h : History) (gate : ℕ) (e : Entry) → IsNoPlan e → IfTimely h e × (plans_in gate e ≡ [])
-timely_change h gate (Arrive doc at text) change = (tt, refl)
-timely_change h gate (Delete doc at) change = (tt, refl)
+-- a change is timely, no plan, and not the mark
+timely_change : (h : History) (gate : ℕ) (e : Entry) → IsChange e → IfTimely h e × (plans_in gate e ≡ []) × (is_mark e ≡ false)
+timely_change h gate (Arrive doc at text) change = (tt, refl, refl)
+timely_change h gate (Delete doc at) change = (tt, refl, refl)
 timely_change h gate (Planned plan) change = absurd change
+timely_change h gate Format change = absurd change
 
 -- ---- a change of a document
 
@@ -80,23 +81,26 @@ timely_change h gate (Planned plan) change = absurd change
 abbrev directory_refusal : History → Entry → Option VersionRefusal
 directory_refusal h (Arrive doc at text) = arrive_refusal doc at (changes h)
 directory_refusal h (Delete doc at) = delete_refusal doc at (changes h)
-directory_refusal h (Planned plan) = None
+directory_refusal h other = None
 
 -- is its cause against the change that the entry makes
 makes_refusal : (e : Entry) (x : Change ℕ) (h : History) (cs : List (Change TextPlace)) → Makes e x → ArePlaced 16 h cs → change_refusal x cs ≡ directory_refusal h e
 makes_refusal (Arrive doc at text) x h cs makes placed = rw (makes.2, ← makes.0, ← makes.1) (placed_arrive_refusal doc at 16 h cs placed)
 makes_refusal (Delete doc at) x h cs makes placed = rw (makes.2, ← makes.0, ← makes.1) (placed_delete_refusal doc at 16 h cs placed)
 makes_refusal (Planned plan) x h cs makes placed = absurd makes
+makes_refusal Format x h cs makes placed = absurd makes
 
-entry_allowed : (h : History) (e : Entry) → directory_refusal h e ≡ None → length (words_in (changes h ++ change_of e ∷ [])) ≤ 2 ^ 20 → entry_refusal h e ≡ None
-entry_allowed h (Arrive doc at text) allowed within = arrival-words h doc at text allowed ∙ ap (λ (o : Option Refusal). first_of (o ∷ [])) (words_within h (Arrive doc at text) tt within)
-entry_allowed h (Delete doc at) allowed within = ap (option_map refusal_of) allowed
-entry_allowed h (Planned plan) allowed within = refl
+entry_allowed : (h : History) (e : Entry) → IsChange e → directory_refusal h e ≡ None → length (words_in (changes h ++ change_of e ∷ [])) ≤ 2 ^ 20 → entry_refusal h e ≡ None
+entry_allowed h (Arrive doc at text) change allowed within = arrival-words h doc at text allowed ∙ ap (λ (o : Option Refusal). first_of (o ∷ [])) (words_within h (Arrive doc at text) tt within)
+entry_allowed h (Delete doc at) change allowed within = ap (option_map refusal_of) allowed
+entry_allowed h (Planned plan) change allowed within = absurd change
+entry_allowed h Format change allowed within = absurd change
 
 entry_refused : (h : History) (e : Entry) (why : VersionRefusal) → directory_refusal h e ≡ Some why → entry_refusal h e ≡ None → ⊥
 entry_refused h (Arrive doc at text) why refused none = let some = arrival-refused h doc at text why refused in cc
 entry_refused h (Delete doc at) why refused none = let some = ap (option_map refusal_of) refused in cc
 entry_refused h (Planned plan) why refused none = absurd cc
+entry_refused h Format why refused none = absurd cc
 
 entry_words : (h : History) (e : Entry) → directory_refusal h e ≡ None → IsSome (text_of e) → 2 ^ 20 < length (words_in (changes h ++ change_of e ∷ [])) → entry_refusal h e ≡ None → ⊥
 entry_words h (Arrive doc at text) allowed some over none =
@@ -104,18 +108,19 @@ entry_words h (Arrive doc at text) allowed some over none =
     cc
 entry_words h (Delete doc at) allowed some over none = cc
 entry_words h (Planned plan) allowed some over none = cc
+entry_words h Format allowed some over none = cc
 
 -- an entry that neither the directory nor the index refuses
-pub gone_over : (gate : ℕ) (h : History) (e : Entry) (x : Change ℕ) (held : Option TextPlace) (cs more : List (Change TextPlace)) (plans : List StoredPlan) (loader : Loaded) (text : Option (List ℕ))
-    → IsReached gate h cs plans → IsEntry e → Makes e x → change_refusal x cs ≡ None → IsHeld (gate + 18) x.held held
+pub gone_over : {marked : Bool} (gate : ℕ) (h : History) (e : Entry) (x : Change ℕ) (held : Option TextPlace) (cs more : List (Change TextPlace)) (plans : List StoredPlan) (loader : Loaded) (text : Option (List ℕ))
+    → IsReached gate h cs plans marked → IsEntry e → Makes e x → change_refusal x cs ≡ None → IsHeld (gate + 18) x.held held
     → more ≡ cs ++ record { doc = x.doc; at = x.at; held = held } ∷ [] → text ≡ text_of e
     → length (words_in (changes h ++ record { doc = x.doc; at = x.at; held = text } ∷ [])) ≤ 2 ^ 20
     → (ComesLater (changes h) (record { doc = x.doc; at = x.at; held = text }) → AreLoaded loader (changes h ++ record { doc = x.doc; at = x.at; held = text } ∷ []))
-    → IsGoneOver gate h (spelling e) more plans loader
+    → IsGoneOver gate h (spelling e) more plans marked loader
 gone_over gate h e x held cs more plans loader text reached ranges makes allowed is pushed same within takes =
     let change = makes_change e x text makes same in
     let is_change = makes_is_change e x makes in
-    let may : entry_refusal h e ≡ None = entry_allowed h e (sym (makes_refusal e x h cs makes reached.placed) ∙ allowed) (omega (arith, within, ap (λ (c : Change (List ℕ)). length (words_in (changes h ++ c ∷ []))) change)) in
+    let may : entry_refusal h e ≡ None = entry_allowed h e is_change (sym (makes_refusal e x h cs makes reached.placed) ∙ allowed) (omega (arith, within, ap (λ (c : Change (List ℕ)). length (words_in (changes h ++ c ∷ []))) change)) in
     record {
       entry = e;
       spelled = refl;
@@ -124,19 +129,20 @@ gone_over gate h e x held cs more plans loader text reached ranges makes allowed
         gate_is = omega (arith, reached.gate_is, end_of-push h e);
         placed = subst (λ (l : List (Change TextPlace)). ArePlaced 16 (h ++ e ∷ []) l) (sym pushed) (placed_more h cs e x held gate reached.placed reached.gate_is makes is);
         plans_are = reached.plans_are ∙ sym (plans_push h e gate reached.gate_is ∙ ap (λ (l : List StoredPlan). plans_from 16 h ++ l) (timely_change h gate e is_change).1 ∙ append-nil (plans_from 16 h));
+        marked_is = reached.marked_is ∙ sym (unmarked_push h e (timely_change h gate e is_change).2);
       };
       loads = takes_change (AreLoaded loader) h e x text makes same (open_allowed [] h reached.opens) may takes;
     }
 
 -- an entry that the directory refuses
-pub refused_there : (gate : ℕ) (h : History) (e : Entry) (x : Change ℕ) (why : VersionRefusal) (cs : List (Change TextPlace)) (plans : List StoredPlan) (at : ℕ)
-    → IsReached gate h cs plans → IsEntry e → Makes e x → change_refusal x cs ≡ Some why → at ≡ gate → IsFaulty gate h (spelling e) at
+pub refused_there : {marked : Bool} (gate : ℕ) (h : History) (e : Entry) (x : Change ℕ) (why : VersionRefusal) (cs : List (Change TextPlace)) (plans : List StoredPlan) (at : ℕ)
+    → IsReached gate h cs plans marked → IsEntry e → Makes e x → change_refusal x cs ≡ Some why → at ≡ gate → IsFaulty gate h (spelling e) at
 refused_there gate h e x why cs plans at reached ranges makes refused here =
     inr (record { entry = e; ranges = ranges; spelled = refl; refused = λ may. entry_refused h e why (sym (makes_refusal e x h cs makes reached.placed) ∙ refused) may.allowed }, here)
 
 -- an entry whose words are too many
-pub words_there : (gate : ℕ) (h : History) (e : Entry) (x : Change ℕ) (cs : List (Change TextPlace)) (plans : List StoredPlan) (at : ℕ) (text : Option (List ℕ))
-    → IsReached gate h cs plans → IsEntry e → Makes e x → change_refusal x cs ≡ None → text ≡ text_of e → IsSome text
+pub words_there : {marked : Bool} (gate : ℕ) (h : History) (e : Entry) (x : Change ℕ) (cs : List (Change TextPlace)) (plans : List StoredPlan) (at : ℕ) (text : Option (List ℕ))
+    → IsReached gate h cs plans marked → IsEntry e → Makes e x → change_refusal x cs ≡ None → text ≡ text_of e → IsSome text
     → 2 ^ 20 < length (words_in (changes h ++ record { doc = x.doc; at = x.at; held = text } ∷ [])) → at ≡ gate → IsFaulty gate h (spelling e) at
 words_there gate h e x cs plans at text reached ranges makes allowed same some over here =
     let change = makes_change e x text makes same in
@@ -175,8 +181,8 @@ some_last (Some t) n some within = (t, (refl, within))
 pub planned_timely : (h : History) (plan : PlanEntry) → MayBePlanned IsFitFor h plan → IsTimely (changes h) plan
 planned_timely h plan may = some_last (last_time (changes h)) plan.horizon.seconds (list_behind may.list plan.horizon.seconds may.some may.list_is.inside) may.past
 
-pub plan_over : (gate : ℕ) (h : History) (plan : PlanEntry) (cs : List (Change TextPlace)) (plans : List StoredPlan) (loader : Loaded)
-    → IsReached gate h cs plans → IsEntry (Planned plan) → IsTimely cs plan → AreLoaded loader (changes h) → IsGoneOver gate h (spelling (Planned plan)) cs (plans ++ record { gate = gate; plan = plan } ∷ []) loader
+pub plan_over : {marked : Bool} (gate : ℕ) (h : History) (plan : PlanEntry) (cs : List (Change TextPlace)) (plans : List StoredPlan) (loader : Loaded)
+    → IsReached gate h cs plans marked → IsEntry (Planned plan) → IsTimely cs plan → AreLoaded loader (changes h) → IsGoneOver gate h (spelling (Planned plan)) cs (plans ++ record { gate = gate; plan = plan } ∷ []) marked loader
 plan_over gate h plan cs plans loader reached ranges timely loads =
     record {
       entry = Planned plan;
@@ -186,23 +192,43 @@ plan_over gate h plan cs plans loader reached ranges timely loads =
         gate_is = omega (arith, reached.gate_is, end_of-push h (Planned plan));
         placed = placed_plan h cs plan reached.placed;
         plans_are = ap (λ (l : List StoredPlan). l ++ record { gate = gate; plan = plan } ∷ []) reached.plans_are ∙ sym (plans_push h (Planned plan) gate reached.gate_is);
+        marked_is = reached.marked_is ∙ sym (unmarked_push h (Planned plan) refl);
       };
       loads = subst (λ (l : List (Change (List ℕ))). AreLoaded loader l) (sym (changes_still h plan)) loads;
     }
 
-pub plan_there : (gate : ℕ) (h : History) (plan : PlanEntry) (cs : List (Change TextPlace)) (plans : List StoredPlan) (at : ℕ)
-    → IsReached gate h cs plans → IsEntry (Planned plan) → (IsTimely cs plan → ⊥) → at ≡ gate → IsFaulty gate h (spelling (Planned plan)) at
+pub plan_there : {marked : Bool} (gate : ℕ) (h : History) (plan : PlanEntry) (cs : List (Change TextPlace)) (plans : List StoredPlan) (at : ℕ)
+    → IsReached gate h cs plans marked → IsEntry (Planned plan) → (IsTimely cs plan → ⊥) → at ≡ gate → IsFaulty gate h (spelling (Planned plan)) at
 plan_there gate h plan cs plans at reached ranges late here =
     inr (record { entry = Planned plan; ranges = ranges; spelled = refl; refused = λ may. late (timely_by (changes h) cs plan (sym (placed_last h cs reached.placed)) (planned_timely h plan may.planned)) }, here)
+
+-- ---- the mark
+
+pub mark_over : (gate : ℕ) (h : History) (cs : List (Change TextPlace)) (plans : List StoredPlan) (marked : Bool) (loader : Loaded)
+    → IsReached gate h cs plans marked → marked ≡ false → AreLoaded loader (changes h) → IsGoneOver gate h (spelling Format) cs plans true loader
+mark_over gate h cs plans marked loader reached none loads =
+    let is_unmarked : is_marked h ≡ false = sym reached.marked_is ∙ none in
+    record {
+      entry = Format;
+      spelled = refl;
+      reached = record {
+        opens = open_push [] h Format reached.opens (record { ranges = tt; allowed = when_false (is_marked h) HasFormat is_unmarked; timely = tt });
+        gate_is = omega (arith, reached.gate_is, end_of-push h Format);
+        placed = placed_mark h cs reached.placed;
+        plans_are = reached.plans_are ∙ sym (plans_push h Format gate reached.gate_is ∙ append-nil (plans_from 16 h));
+        marked_is = sym (marked_push h);
+      };
+      loads = subst (λ (l : List (Change (List ℕ))). AreLoaded loader l) (sym (changes_marked h)) loads;
+    }
 
 -- ---- bodies, one after another
 
 -- before the first one
-pub replaying_none : (tells : Type 0) (journal : List ℕ) (heads : List Head) (reader : BodiesState) (cs : List (Change TextPlace)) (plans : List StoredPlan) (loader : Loaded) → cs ≡ [] → plans ≡ [] → AreLoaded loader []
-    → AreBehind heads [] reader → ((bodies : List (List ℕ)) → Spells journal bodies → heads ≡ heads_of 16 bodies → AreLeft journal reader bodies) → IsReplaying tells journal heads reader cs plans loader
-replaying_none tells journal heads reader cs plans loader none nothing_ loads behind left = record {
+pub replaying_none : (tells : Type 0) (journal : List ℕ) (heads : List Head) (reader : BodiesState) (cs : List (Change TextPlace)) (plans : List StoredPlan) (marked : Bool) (loader : Loaded) → cs ≡ [] → plans ≡ [] → marked ≡ false → AreLoaded loader []
+    → AreBehind heads [] reader → ((bodies : List (List ℕ)) → Spells journal bodies → heads ≡ heads_of 16 bodies → AreLeft journal reader bodies) → IsReplaying tells journal heads reader cs plans marked loader
+replaying_none tells journal heads reader cs plans marked loader none nothing_ unmarked loads behind left = record {
   history = [];
-  reached = record { opens = tt; gate_is = end_of_is []; placed = let P : List (Change TextPlace) → Type 0 = λ l. ArePlaced 16 [] l in subst P (sym none) refl; plans_are = nothing_ };
+  reached = record { opens = tt; gate_is = end_of_is []; placed = let P : List (Change TextPlace) → Type 0 = λ l. ArePlaced 16 [] l in subst P (sym none) refl; plans_are = nothing_; marked_is = unmarked };
   loads = loads;
   behind = behind;
   left = λ told bodies same spelled. (bodies, refl, left bodies spelled same);
@@ -222,27 +248,27 @@ comes tells a b heads before reader next head body same is behind left =
     let C : DiskState → List ℕ → Type 0 = λ d l. Comes tells d.holds.journal heads before reader next head.gate l in
     subst (C a) (sym is) (subst (λ (d : DiskState). C d (body_at next head)) same (record { here = behind.0; behind = behind.1; left = left }))
 
-pub reached_by : {tells : Type 0} {journal : List ℕ} {heads : List Head} {before : History} {reader next : BodiesState} {gate : ℕ} {body : List ℕ} {cs : List (Change TextPlace)} {plans : List StoredPlan}
-    → Comes tells journal heads before reader next gate body → IsReached (length (front (bodies_of before))) before cs plans → IsReached gate before cs plans
-reached_by {before = before} {cs = cs} {plans = plans} came reached = subst (λ (n : ℕ). IsReached n before cs plans) (sym came.here) reached
+pub reached_by : {tells : Type 0} {journal : List ℕ} {heads : List Head} {before : History} {reader next : BodiesState} {gate : ℕ} {body : List ℕ} {cs : List (Change TextPlace)} {plans : List StoredPlan} {marked : Bool}
+    → Comes tells journal heads before reader next gate body → IsReached (length (front (bodies_of before))) before cs plans marked → IsReached gate before cs plans marked
+reached_by {before = before} {cs = cs} {plans = plans} {marked = marked} came reached = subst (λ (n : ℕ). IsReached n before cs plans marked) (sym came.here) reached
 
 -- one body more
-pub replayed_more : (tells : Type 0) (journal : List ℕ) (heads : List Head) (reader next : BodiesState) (cs more : List (Change TextPlace)) (plans others : List StoredPlan) (loader after : Loaded) (gate : ℕ) (body : List ℕ)
-    → (r : IsReplaying tells journal heads reader cs plans loader) → Comes tells journal heads r.history reader next gate body → IsGoneOver gate r.history body more others after
-    → IsReplaying tells journal heads next more others after
+pub replayed_more : {marked now_marked : Bool} (tells : Type 0) (journal : List ℕ) (heads : List Head) (reader next : BodiesState) (cs more : List (Change TextPlace)) (plans others : List StoredPlan) (loader after : Loaded) (gate : ℕ) (body : List ℕ)
+    → (r : IsReplaying tells journal heads reader cs plans marked loader) → Comes tells journal heads r.history reader next gate body → IsGoneOver gate r.history body more others now_marked after
+    → IsReplaying tells journal heads next more others now_marked after
 replayed_more tells journal heads reader next cs more plans others loader after gate body r came over =
     let h = r.history in
-    let now : bodies_of (h ++ over.entry ∷ []) ≡ bodies_of h ++ body ∷ [] = bodies_of-push h over.entry ∙ ap (λ (l : List ℕ). bodies_of h ++ l ∷ []) (sym over.spelled) in
+    let bodies_are : bodies_of (h ++ over.entry ∷ []) ≡ bodies_of h ++ body ∷ [] = bodies_of-push h over.entry ∙ ap (λ (l : List ℕ). bodies_of h ++ l ∷ []) (sym over.spelled) in
     record {
       history = h ++ over.entry ∷ [];
-      reached = record { opens = over.reached.opens; gate_is = end_of_is (h ++ over.entry ∷ []); placed = over.reached.placed; plans_are = over.reached.plans_are };
+      reached = record { opens = over.reached.opens; gate_is = end_of_is (h ++ over.entry ∷ []); placed = over.reached.placed; plans_are = over.reached.plans_are; marked_is = over.reached.marked_is };
       loads = over.loads;
-      behind = let B : List (List ℕ) → Type 0 = λ l. AreBehind heads l next in subst B (sym now) came.behind;
+      behind = let B : List (List ℕ) → Type 0 = λ l. AreBehind heads l next in subst B (sym bodies_are) came.behind;
       left = λ told bodies same spelled.
           let before = r.left told bodies same spelled in
           let later = came.left told before.0 before.2 in (
             later.0,
-            before.1 ∙ ap (λ (l : List (List ℕ)). bodies_of h ++ l) later.1 ∙ sym (append_assoc (bodies_of h) (body ∷ []) later.0) ∙ ap (λ (l : List (List ℕ)). l ++ later.0) (sym now),
+            before.1 ∙ ap (λ (l : List (List ℕ)). bodies_of h ++ l) later.1 ∙ sym (append_assoc (bodies_of h) (body ∷ []) later.0) ∙ ap (λ (l : List (List ℕ)). l ++ later.0) (sym bodies_are),
             later.2,
           );
     }
@@ -260,8 +286,8 @@ next_bad {h = h} {body = body} at bodies told came before fault =
     }
 
 -- where none is left all were read
-pub all_read : (tells : Type 0) (journal : List ℕ) (heads : List Head) (reader : BodiesState) (cs : List (Change TextPlace)) (plans : List StoredPlan) (loader : Loaded)
-    → (r : IsReplaying tells journal heads reader cs plans loader) → reader.left ≡ []
+pub all_read : {marked : Bool} (tells : Type 0) (journal : List ℕ) (heads : List Head) (reader : BodiesState) (cs : List (Change TextPlace)) (plans : List StoredPlan) (loader : Loaded)
+    → (r : IsReplaying tells journal heads reader cs plans marked loader) → reader.left ≡ []
     → (heads ≡ heads_of 16 (bodies_of r.history)) × (tells → (bodies : List (List ℕ)) → heads ≡ heads_of 16 bodies → Spells journal bodies → bodies_of r.history ≡ bodies)
 all_read tells journal heads reader cs plans loader r none = (
   r.behind.heads_are ∙ ap (λ (l : List Head). heads_of 16 (bodies_of r.history) ++ l) none ∙ append-nil (heads_of 16 (bodies_of r.history)),
@@ -271,15 +297,16 @@ all_read tells journal heads reader cs plans loader r none = (
 )
 
 -- what was met is as it was
-unfoldable pub same_replaying : (tells : Type 0) (journal : List ℕ) (heads : List Head) (reader : BodiesState) (cs others : List (Change TextPlace)) (plans those : List StoredPlan) (loader other : Loaded) → others ≡ cs → those ≡ plans → other ≡ loader
-    → IsReplaying tells journal heads reader cs plans loader → IsReplaying tells journal heads reader others those other
-same_replaying tells journal heads reader cs others plans those loader other a b d r = record {
+unfoldable pub same_replaying : (tells : Type 0) (journal : List ℕ) (heads : List Head) (reader : BodiesState) (cs others : List (Change TextPlace)) (plans those : List StoredPlan) (marked now_marked : Bool) (loader other : Loaded) → others ≡ cs → those ≡ plans → now_marked ≡ marked → other ≡ loader
+    → IsReplaying tells journal heads reader cs plans marked loader → IsReplaying tells journal heads reader others those now_marked other
+same_replaying tells journal heads reader cs others plans those marked now_marked loader other a b m d r = record {
   history = r.history;
   reached = record {
     opens = r.reached.opens;
     gate_is = r.reached.gate_is;
     placed = let P : List (Change TextPlace) → Type 0 = λ l. ArePlaced 16 r.history l in subst P (sym a) r.reached.placed;
     plans_are = b ∙ r.reached.plans_are;
+    marked_is = m ∙ r.reached.marked_is;
   };
   loads = let L : Loaded → Type 0 = λ l. AreLoaded l (changes r.history) in subst L (sym d) r.loads;
   behind = r.behind;

@@ -14,7 +14,7 @@ use Rattle.lists_versions.specs.declared.change.Change.{Change}
 use Rattle.plans_kinds.specs.Plans.{IsFitFor}
 use Rattle.journal_entries.specs.Spelling.{spelling, IsEntry}
 use Rattle.journal_entries.specs.declared.entry.Entry.{Entry}
-use Rattle.journal_entries.specs.declared.entry.Entry.TheVariants.{Arrive, Delete, Planned}
+use Rattle.journal_entries.specs.declared.entry.Entry.TheVariants.{Arrive, Delete, Planned, Format}
 use Rattle.journal_entries.specs.declared.plan.PlanEntry.{PlanEntry}
 use Rattle.lists_versions.specs.Changes.{last_time}
 use Rattle.model_archive.specs.declared.stored.StoredPlan.{StoredPlan}
@@ -66,11 +66,12 @@ may_fit whole before h gate plan is opens may =
 further : (whole before h : History) (e : Entry) → whole ≡ before ++ e ∷ h → whole ≡ (before ++ e ∷ []) ++ h
 further whole before h e is = is ∙ sym (append_assoc before (e ∷ []) h)
 
--- a change of a document may come as far as was asked of it
+-- what is no plan may come as far as was asked of it
 change_may : (before : History) (e : Entry) → IsNoPlan e → IsOpen before e → MayCome IsFitFor before e
 change_may before (Arrive doc at text) change opens = record { ranges = opens.ranges; allowed = opens.allowed; planned = tt }
 change_may before (Delete doc at) change opens = record { ranges = opens.ranges; allowed = opens.allowed; planned = tt }
 change_may before (Planned plan) change opens = absurd change
+change_may before Format change opens = record { ranges = opens.ranges; allowed = opens.allowed; planned = tt }
 
 -- ---- all of them
 
@@ -80,6 +81,8 @@ settle_all whole before (Arrive doc at text ∷ h) gate is opens fit =
     let e = Arrive doc at text in (change_may before e tt opens.0, settle_all whole (before ++ e ∷ []) h (gate + 5 + length (spelling e)) (further whole before h e is) opens.1 fit)
 settle_all whole before (Delete doc at ∷ h) gate is opens fit =
     let e = Delete doc at in (change_may before e tt opens.0, settle_all whole (before ++ e ∷ []) h (gate + 5 + length (spelling e)) (further whole before h e is) opens.1 fit)
+settle_all whole before (Format ∷ h) gate is opens fit =
+    let e = Format in (change_may before e tt opens.0, settle_all whole (before ++ e ∷ []) h (gate + 5 + length (spelling e)) (further whole before h e is) opens.1 fit)
 settle_all whole before (Planned plan ∷ h) gate is opens fit =
     let then = gate + 5 + length (spelling (Planned plan)) in
     let s : StoredPlan = record { gate = gate; plan = plan } in (
@@ -137,6 +140,10 @@ settle_first whole before (Delete doc at_ ∷ h) gate at is opens loads here unf
     let e = Delete doc at_ in
     settle_first whole (before ++ e ∷ []) h (gate + 5 + length (spelling e)) at (further whole before h e is) opens.1 (come-push IsFitFor before e loads (change_may before e tt opens.0))
     (next_gate before e gate here) unfit
+settle_first whole before (Format ∷ h) gate at is opens loads here unfit =
+    let e = Format in
+    settle_first whole (before ++ e ∷ []) h (gate + 5 + length (spelling e)) at (further whole before h e is) opens.1 (come-push IsFitFor before e loads (change_may before e tt opens.0))
+    (next_gate before e gate here) unfit
 settle_first whole before (Planned plan ∷ h) gate at is opens loads here unfit =
     elim (unfit_further whole (record { gate = gate; plan = plan }) (plans_from (gate + 5 + length (spelling (Planned plan))) h) at unfit) [
       | inl on ↦ settle_first whole (before ++ Planned plan ∷ []) h (gate + 5 + length (spelling (Planned plan))) at (further whole before h (Planned plan) is) opens.1
@@ -178,6 +185,7 @@ with_plans_in : (gate : ℕ) (live : List StoredPlan) (e : Entry) → with_entry
 with_plans_in gate live (Arrive doc at text) = refl
 with_plans_in gate live (Delete doc at) = refl
 with_plans_in gate live (Planned plan) = refl
+with_plans_in gate live Format = refl
 
 live_folded : (gate : ℕ) (live : List StoredPlan) (h : History) → live_after gate live h ≡ fold with_plan live (plans_from gate h)
 live_folded gate live [] = refl

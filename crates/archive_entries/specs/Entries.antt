@@ -1,5 +1,6 @@
 -- An entry, the change that it makes, and why that may not come next.
 use Rattle.std.specs.Prelude.{◌≡◌, ℕ, List, [], ◌∷◌, length, Option, Some, None, option_map, Result, Ok, Err}
+use Rattle.std.proofs.Common.{lit<}
 use Rattle.base_types.specs.declared.ids.DocId.{DocId}
 use Rattle.base_types.specs.declared.time.Time.{Time}
 use Rattle.base_types.specs.declared.text_place.TextPlace.{TextPlace}
@@ -20,27 +21,32 @@ use Rattle.archive_entries.specs.declared.preparing.Prepared.{Prepared}
 use Rattle.archive_entries.specs.declared.error.Declined.{Declined}
 use Rattle.archive_entries.specs.declared.error.Declined.TheVariants as declines
 
--- the change that an entry makes, with the length of its text; a plan makes none
+-- the entry is a change of a document
+abbrev pub IsChange : Entry → Type 0
+IsChange (Arrive doc at text) = Unit {0}
+IsChange (Delete doc at) = Unit {0}
+IsChange other = ⊥
+
+-- the change that an entry makes, with the length of its text; a plan and the mark make none
 abbrev pub Makes : Entry → Change ℕ → Type 0
 Makes (Arrive doc at text) change = (doc ≡ change.doc) × (at ≡ change.at) × (change.held ≡ Some (length text))
 Makes (Delete doc at) change = (doc ≡ change.doc) × (at ≡ change.at) × (change.held ≡ None)
-Makes (Planned plan) change = ⊥
+Makes other change = ⊥
 
--- the document of a change, its time, and the text that it has then (a plan, which changes no document, has its horizon and no text)
+-- the document of a change, its time, and the text that it has then (what changes no document has the first of each, and no text)
 abbrev pub document_of : Entry → DocId
 document_of (Arrive doc at text) = doc
 document_of (Delete doc at) = doc
-document_of (Planned plan) = record { 0 = 0 }
+document_of other = record { 0 = 0 }
 
 abbrev pub time_of : Entry → Time
 time_of (Arrive doc at text) = at
 time_of (Delete doc at) = at
-time_of (Planned plan) = plan.horizon
+time_of other = record { seconds = 0; before_now = lit< tt }
 
 abbrev pub text_of : Entry → Option (List ℕ)
 text_of (Arrive doc at text) = Some text
-text_of (Delete doc at) = None
-text_of (Planned plan) = None
+text_of other = None
 
 -- what is held of a text of so many bytes that lies at this place, or of none
 abbrev pub IsHeld : ℕ → Option ℕ → Option TextPlace → Type 0

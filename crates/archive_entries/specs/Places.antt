@@ -6,7 +6,7 @@ use Rattle.lists_versions.specs.declared.change.Change.{Change}
 use Rattle.lists_versions.specs.Changes.{mapped}
 use Rattle.journal_entries.specs.Spelling.{spelling}
 use Rattle.journal_entries.specs.declared.entry.Entry.{Entry}
-use Rattle.journal_entries.specs.declared.entry.Entry.TheVariants.{Arrive, Delete, Planned}
+use Rattle.journal_entries.specs.declared.entry.Entry.TheVariants.{Arrive, Delete}
 use Rattle.model_archive.specs.Histories.{History}
 
 -- where a text lies: the place of its first byte in the journal, and how many bytes it has
@@ -21,7 +21,7 @@ text_offset = 13
 abbrev pub placed_by : ℕ → Entry → List (Change (ℕ × ℕ))
 placed_by gate (Arrive doc at text) = record { doc = doc; at = at; held = Some (gate + (gate_bytes + text_offset), length text) } ∷ []
 placed_by gate (Delete doc at) = record { doc = doc; at = at; held = None } ∷ []
-placed_by gate (Planned plan) = []
+placed_by gate other = []
 
 -- those of entries; the first entry's gate is at this place
 abbrev pub places : ℕ → History → List (Change (ℕ × ℕ))

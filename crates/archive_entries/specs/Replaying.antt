@@ -1,5 +1,5 @@
 -- What a load knows while it goes over the entries.
-use Rattle.std.specs.Prelude.{◌≡◌, ◌⊎◌, ℕ, ◌+◌, ◌<◌, ◌≤◌, List, [], ◌∷◌, ◌++◌, length, All, Some, None}
+use Rattle.std.specs.Prelude.{◌≡◌, ◌⊎◌, ℕ, ◌+◌, ◌<◌, ◌≤◌, Bool, List, [], ◌∷◌, ◌++◌, length, All, Some, None}
 use Rattle.journal_gates.specs.declared.head.Head.{Head}
 use Rattle.journal_gates.specs.Records.{first_gate, gate_bytes, front}
 use Rattle.journal_gates.specs.Heads.{heads_of}
@@ -14,11 +14,11 @@ use Rattle.base_types.specs.declared.time.Time.{Time}
 use Rattle.plans_kinds.specs.Plans.{IsFitFor}
 use Rattle.journal_entries.specs.Spelling.{IsEntry}
 use Rattle.journal_entries.specs.declared.entry.Entry.{Entry}
-use Rattle.journal_entries.specs.declared.entry.Entry.TheVariants.{Arrive, Delete, Planned}
+use Rattle.journal_entries.specs.declared.entry.Entry.TheVariants.{Planned}
 use Rattle.journal_entries.specs.declared.plan.PlanEntry.{PlanEntry}
 use Rattle.model_archive.specs.Histories as histories
 use Rattle.model_archive.specs.declared.stored.StoredPlan.{StoredPlan}
-use Rattle.model_archive.specs.Histories.{History, end_of, entry_refusal}
+use Rattle.model_archive.specs.Histories.{History, end_of, entry_refusal, is_marked}
 use Rattle.model_archive.specs.Legal.{IsLoadable}
 use Rattle.model_archive.specs.Planning.{IsListUpTo}
 use Rattle.model_archive.specs.Plans.{live_plans}
@@ -34,9 +34,8 @@ IsTimely changes plan = (last : Time) × ((last_time changes ≡ Some last) × (
 
 -- what is asked of a plan at once
 abbrev pub IfTimely : History → Entry → Type 0
-IfTimely before (Arrive doc at text) = Unit {0}
-IfTimely before (Delete doc at) = Unit {0}
 IfTimely before (Planned plan) = IsTimely (histories.changes before) plan
+IfTimely before other = Unit {0}
 
 -- what is asked of an entry at once: all but what needs a plan's list
 pub record IsOpen (before : History) (entry : Entry) : Type 0 where
@@ -51,9 +50,8 @@ AreOpen before (entry ∷ entries) = IsOpen before entry × AreOpen (before ++ e
 
 -- a plan of an entry with its gate, if the entry is one
 abbrev pub plans_in : ℕ → Entry → List StoredPlan
-plans_in gate (Arrive doc at text) = []
-plans_in gate (Delete doc at) = []
 plans_in gate (Planned plan) = record { gate = gate; plan = plan } ∷ []
+plans_in gate other = []
 
 -- all plans of entries, the first of which has its gate at this place
 abbrev pub plans_from : ℕ → History → List StoredPlan
@@ -75,19 +73,20 @@ pub record IsFirstUnfit (history : History) (plans : List StoredPlan) (at : ℕ)
   pub unfit : IsFitIn history stored → ⊥
   pub at_is : at ≡ stored.gate
 
--- these are the changes and the plans of entries that were gone over, and the next gate is at this place
-pub record IsReached (gate : ℕ) (history : History) (changes : List (Change TextPlace)) (plans : List StoredPlan) : Type 0 where
+-- these are the changes and the plans of entries that were gone over, this tells whether the mark is among them, and the next gate is at this place
+pub record IsReached (gate : ℕ) (history : History) (changes : List (Change TextPlace)) (plans : List StoredPlan) (marked : Bool) : Type 0 where
   pub opens : AreOpen [] history
   pub gate_is : end_of history ≡ gate + 1
   pub placed : ArePlaced first_gate history changes
   pub plans_are : plans ≡ plans_from first_gate history
+  pub marked_is : marked ≡ is_marked history
 
 -- this body spells an entry that may come behind a history, as far as can be told; these are the changes and the plans with its own, and its text
 -- is loaded
-pub record IsGoneOver (gate : ℕ) (history : History) (body : List ℕ) (changes : List (Change TextPlace)) (plans : List StoredPlan) (loader : Loaded) : Type 0 where
+pub record IsGoneOver (gate : ℕ) (history : History) (body : List ℕ) (changes : List (Change TextPlace)) (plans : List StoredPlan) (marked : Bool) (loader : Loaded) : Type 0 where
   pub entry : Entry
   pub spelled : body ≡ spelling entry
-  pub reached : IsReached (gate + gate_bytes + length body) (history ++ entry ∷ []) changes plans
+  pub reached : IsReached (gate + gate_bytes + length body) (history ++ entry ∷ []) changes plans marked
   pub loads : AreLoaded loader (histories.changes (history ++ entry ∷ []))
 
 -- an entry with its gate at this place that is misspelled or illegal behind a history, which shows at that place
@@ -96,9 +95,9 @@ IsFaulty gate before body at = ((offset : ℕ) × IsMisspelled body offset × (a
 
 -- Entries that are gone over while bodies are read one after another: these are their changes and plans, their texts are loaded, and their bodies are
 -- those that were read of the journal, whose heads these are.
-pub record IsReplaying (tells : Type 0) (journal : List ℕ) (heads : List Head) (reader : BodiesState) (changes : List (Change TextPlace)) (plans : List StoredPlan) (loader : Loaded) : Type 0 where
+pub record IsReplaying (tells : Type 0) (journal : List ℕ) (heads : List Head) (reader : BodiesState) (changes : List (Change TextPlace)) (plans : List StoredPlan) (marked : Bool) (loader : Loaded) : Type 0 where
   pub history : History
-  pub reached : IsReached (length (front (bodies_of history))) history changes plans
+  pub reached : IsReached (length (front (bodies_of history))) history changes plans marked
   pub loads : AreLoaded loader (histories.changes history)
   pub behind : AreBehind heads (bodies_of history) reader
   pub left : tells → (bodies : List (List ℕ)) → heads ≡ heads_of first_gate bodies → Spells journal bodies → (rest : List (List ℕ)) × (bodies ≡ bodies_of history ++ rest) × AreLeft journal reader rest

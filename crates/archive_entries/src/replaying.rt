@@ -1,5 +1,5 @@
 //! Going over the entries of a loaded journal.
-ghost use Rattle.std.specs.Prelude.{◌≡◌, ◌↔◌, ◌+◌, ◌<◌, ◌≤◌, ◌^◌, [], ℕ, List, length, option_map, All, Some, None, IsTrue, IfOk, OnOk, IsErrOf};
+ghost use Rattle.std.specs.Prelude.{◌≡◌, ◌↔◌, ◌+◌, ◌<◌, ◌≤◌, ◌^◌, [], ℕ, List, length, option_map, All, false, Some, None, IsTrue, IfOk, OnOk, IsErrOf};
 ghost use Rattle.machine_model.specs.Causes.{Rose};
 ghost use Rattle.machine_model.specs.Calls.{OnlyReads};
 ghost use Rattle.journal_gates.specs.Records.{first_gate, gate_bytes};
@@ -9,7 +9,7 @@ ghost use Rattle.journal_gates.specs.Bodies.{BodiesState};
 ghost use Rattle.journal_entries.specs.Spelling.{IsEntry, spelling};
 ghost use Rattle.journal_entries.specs.declared.entry.Entry.{Entry as PlainEntry};
 ghost use Rattle.journal_entries.specs.declared.entry.Entry.TheVariants as entries;
-ghost use Rattle.model_archive.specs.Histories.{History, changes, end_of};
+ghost use Rattle.model_archive.specs.Histories.{History, changes, end_of, is_marked};
 ghost use Rattle.archive_entries.specs.Entries.{Makes, text_of};
 ghost use Rattle.lists_index.specs.Indexes.{state_of, Indexes};
 ghost use Rattle.lists_index.specs.Loads.{Loads, loaded};
@@ -41,6 +41,8 @@ pub struct Replayed {
     pub index: Index,
     /// The live plans.
     pub plans: Vec<StoredPlan>,
+    /// Whether the mark of a journal that may have batches is among them.
+    pub marked: bool,
 }
 
 /// What was met so far.
@@ -49,6 +51,7 @@ struct Met {
     directory: Directory,
     loader: Loader,
     plans: Vec<StoredPlan>,
+    marked: bool,
 }
 
 impl Met {
@@ -57,11 +60,13 @@ impl Met {
         ensures changes { IfOk result (λ m. m.directory.changes ≡ []) }
         ensures loads { IfOk result (λ m. Loads m.loader []) }
         ensures plans { IfOk result (λ m. m.plans.items ≡ []) }
+        ensures marked { IfOk result (λ m. m.marked ≡ false) }
     {
         Ok(Met {
             directory: Directory::new(alloc)?,
             loader: Loader::new(alloc)?,
             plans: Vec::new(alloc),
+            marked: false,
         })
     }
 }
@@ -85,11 +90,11 @@ pub fn replay<D: Disk>(
     ensures same { OnlyReads (D.disk disk.old) (D.disk disk.new) }
     ensures unread { D.disk_tells → (D.disk disk.new).bytes_read.pages ≡ (D.disk disk.old).bytes_read.pages }
     ensures failed { IsErrOf result LoadError.Failed → Rose (D.disk disk.old).faults (D.disk disk.new).faults }
-    ensures stands { IfOk result (λ r. (h : History) × IsReplayed h heads.now r.directory.changes r.plans.items × Indexes (state_of r.index) (changes h)) }
+    ensures stands { IfOk result (λ r. (h : History) × IsReplayed h heads.now r.directory.changes r.plans.items × Indexes (state_of r.index) (changes h) × (r.marked ≡ is_marked h)) }
     ensures counted { IfOk result (λ r. (h : History) → IsReplayed h heads.now r.directory.changes r.plans.items → (journal.now.end ≡ end_of h) × (length heads.now ≡ length h)) }
     ensures once { IfOk result (λ r. EachOnce r.plans.items) }
     ensures found { D.disk_tells → (bodies : List (List ℕ)) → heads.now ≡ heads_of first_gate bodies → Spells (D.disk disk.old).holds.journal bodies →
-        IfOk result (λ r. (h : History) × IsReplayed h heads.now r.directory.changes r.plans.items × Indexes (state_of r.index) (changes h) × (bodies_of h ≡ bodies)) }
+        IfOk result (λ r. (h : History) × IsReplayed h heads.now r.directory.changes r.plans.items × Indexes (state_of r.index) (changes h) × (bodies_of h ≡ bodies) × (r.marked ≡ is_marked h)) }
     ensures bad { D.disk_tells → (bodies : List (List ℕ)) → heads.now ≡ heads_of first_gate bodies → Spells (D.disk disk.old).holds.journal bodies →
         (at : ℕ) → IsErrOf result (LoadError.NotArchive at) → IsBadAmong bodies at }
 {
@@ -99,6 +104,7 @@ pub fn replay<D: Disk>(
         directory,
         loader,
         plans,
+        marked,
     } = met;
     let index = loader.finish(alloc)?;
     if let Some(at) = first_unfit(alloc, &index, &plans)? {
@@ -112,6 +118,7 @@ pub fn replay<D: Disk>(
         directory,
         index,
         plans,
+        marked,
     })
 }
 
@@ -129,12 +136,13 @@ fn go_over<D: Disk>(
     requires changes { met.old.directory.changes ≡ [] }
     requires loads { Loads met.old.loader [] }
     requires plans { met.old.plans.items ≡ [] }
+    requires marked { met.old.marked ≡ false }
     ensures only { D.Disk.only disk.old disk.new }
     ensures same { OnlyReads (D.disk disk.old) (D.disk disk.new) }
     ensures unread { D.disk_tells → (D.disk disk.new).bytes_read.pages ≡ (D.disk disk.old).bytes_read.pages }
     ensures failed { IsErrOf result LoadError.Failed → Rose (D.disk disk.old).faults (D.disk disk.new).faults }
     ensures fair { (at : ℕ) → IsErrOf result (LoadError.NotArchive at) → ⊥ }
-    ensures reached { IfOk result (λ fault. (reader : BodiesState) × ((r : IsReplaying D.disk_tells (D.disk disk.old).holds.journal heads.now reader met.new.directory.changes met.new.plans.items (loaded met.new.loader))
+    ensures reached { IfOk result (λ fault. (reader : BodiesState) × ((r : IsReplaying D.disk_tells (D.disk disk.old).holds.journal heads.now reader met.new.directory.changes met.new.plans.items met.new.marked (loaded met.new.loader))
         × (fault ≡ None → reader.left ≡ [])
         × ((at : ℕ) → fault ≡ Some at → D.disk_tells → (bodies : List (List ℕ)) → heads.now ≡ heads_of first_gate bodies → Spells (D.disk disk.old).holds.journal bodies → IsNextBad r.history bodies at))) }
 {
@@ -155,12 +163,12 @@ fn apply(alloc: Global, met: &mut Met, head: &Head, body: &[u8]) -> Result<(), L
     requires within { head.now.body + head.now.bytes < 2 ^ 40 }
     requires len { length body.now ≡ head.now.bytes }
     ensures fair { IsErrOf result LoadError.Failed → ⊥ }
-    ensures more { (h : History) → IsReached head.now.gate h met.old.directory.changes met.old.plans.items → Loads met.old.loader (changes h) →
-        OnOk result (IsGoneOver head.now.gate h body.now met.new.directory.changes met.new.plans.items (loaded met.new.loader)) }
-    ensures bad { (h : History) → IsReached head.now.gate h met.old.directory.changes met.old.plans.items → Loads met.old.loader (changes h) →
+    ensures more { (h : History) → IsReached head.now.gate h met.old.directory.changes met.old.plans.items met.old.marked → Loads met.old.loader (changes h) →
+        OnOk result (IsGoneOver head.now.gate h body.now met.new.directory.changes met.new.plans.items met.new.marked (loaded met.new.loader)) }
+    ensures bad { (h : History) → IsReached head.now.gate h met.old.directory.changes met.old.plans.items met.old.marked → Loads met.old.loader (changes h) →
         (at : ℕ) → IsErrOf result (LoadError.NotArchive at) → IsFaulty head.now.gate h body.now at }
     // Where it isn't added, what was met is as it was.
-    ensures kept { (at : ℕ) → IsErrOf result (LoadError.NotArchive at) → (met.new.directory.changes ≡ met.old.directory.changes) × (met.new.plans.items ≡ met.old.plans.items) × (loaded met.new.loader ≡ loaded met.old.loader) }
+    ensures kept { (at : ℕ) → IsErrOf result (LoadError.NotArchive at) → (met.new.directory.changes ≡ met.old.directory.changes) × (met.new.plans.items ≡ met.old.plans.items) × (met.new.marked ≡ met.old.marked) × (loaded met.new.loader ≡ loaded met.old.loader) }
 {
     match decode(alloc, body) {
         Ok(entry) => apply_entry(alloc, met, head, entry),
@@ -176,11 +184,11 @@ fn apply_entry(alloc: Global, met: &mut Met, head: &Head, entry: Entry) -> Resul
     requires ranges { IsEntry entry }
     requires long { length (spelling entry) ≡ head.now.bytes }
     ensures fair { IsErrOf result LoadError.Failed → ⊥ }
-    ensures more { (h : History) → IsReached head.now.gate h met.old.directory.changes met.old.plans.items → Loads met.old.loader (changes h) →
-        OnOk result (IsGoneOver head.now.gate h (spelling entry) met.new.directory.changes met.new.plans.items (loaded met.new.loader)) }
-    ensures bad { (h : History) → IsReached head.now.gate h met.old.directory.changes met.old.plans.items → Loads met.old.loader (changes h) →
+    ensures more { (h : History) → IsReached head.now.gate h met.old.directory.changes met.old.plans.items met.old.marked → Loads met.old.loader (changes h) →
+        OnOk result (IsGoneOver head.now.gate h (spelling entry) met.new.directory.changes met.new.plans.items met.new.marked (loaded met.new.loader)) }
+    ensures bad { (h : History) → IsReached head.now.gate h met.old.directory.changes met.old.plans.items met.old.marked → Loads met.old.loader (changes h) →
         (at : ℕ) → IsErrOf result (LoadError.NotArchive at) → IsFaulty head.now.gate h (spelling entry) at }
-    ensures kept { (at : ℕ) → IsErrOf result (LoadError.NotArchive at) → (met.new.directory.changes ≡ met.old.directory.changes) × (met.new.plans.items ≡ met.old.plans.items) × (loaded met.new.loader ≡ loaded met.old.loader) }
+    ensures kept { (at : ℕ) → IsErrOf result (LoadError.NotArchive at) → (met.new.directory.changes ≡ met.old.directory.changes) × (met.new.plans.items ≡ met.old.plans.items) × (met.new.marked ≡ met.old.marked) × (loaded met.new.loader ≡ loaded met.old.loader) }
 {
     match entry {
         Entry::Arrive { doc, at, text } => {
@@ -201,6 +209,7 @@ fn apply_entry(alloc: Global, met: &mut Met, head: &Head, entry: Entry) -> Resul
             apply_change(alloc, met, head, change, None)
         }
         Entry::Planned(plan) => apply_plan(met, head, plan),
+        Entry::Format => apply_mark(met, head),
     }
 }
 
@@ -216,13 +225,13 @@ fn apply_change(
     requires within { head.now.body + head.now.bytes < 2 ^ 40 }
     requires makes { (entry : PlainEntry) × IsEntry entry × Makes entry change × (option_map (λ t. t.now) text ≡ text_of entry) × (length (spelling entry) ≡ head.now.bytes) }
     ensures fair { IsErrOf result LoadError.Failed → ⊥ }
-    ensures more { (h : History) (entry : PlainEntry) → IsReached head.now.gate h met.old.directory.changes met.old.plans.items → Loads met.old.loader (changes h) →
+    ensures more { (h : History) (entry : PlainEntry) → IsReached head.now.gate h met.old.directory.changes met.old.plans.items met.old.marked → Loads met.old.loader (changes h) →
         IsEntry entry → Makes entry change → option_map (λ t. t.now) text.entry ≡ text_of entry →
-        OnOk result (IsGoneOver head.now.gate h (spelling entry) met.new.directory.changes met.new.plans.items (loaded met.new.loader)) }
-    ensures bad { (h : History) (entry : PlainEntry) → IsReached head.now.gate h met.old.directory.changes met.old.plans.items → Loads met.old.loader (changes h) →
+        OnOk result (IsGoneOver head.now.gate h (spelling entry) met.new.directory.changes met.new.plans.items met.new.marked (loaded met.new.loader)) }
+    ensures bad { (h : History) (entry : PlainEntry) → IsReached head.now.gate h met.old.directory.changes met.old.plans.items met.old.marked → Loads met.old.loader (changes h) →
         IsEntry entry → Makes entry change → option_map (λ t. t.now) text.entry ≡ text_of entry →
         (at : ℕ) → IsErrOf result (LoadError.NotArchive at) → IsFaulty head.now.gate h (spelling entry) at }
-    ensures kept { (at : ℕ) → IsErrOf result (LoadError.NotArchive at) → (met.new.directory.changes ≡ met.old.directory.changes) × (met.new.plans.items ≡ met.old.plans.items) × (loaded met.new.loader ≡ loaded met.old.loader) }
+    ensures kept { (at : ℕ) → IsErrOf result (LoadError.NotArchive at) → (met.new.directory.changes ≡ met.old.directory.changes) × (met.new.plans.items ≡ met.old.plans.items) × (met.new.marked ≡ met.old.marked) × (loaded met.new.loader ≡ loaded met.old.loader) }
 {
     match may_come(&met.directory, change) {
         Ok(()) => {}
@@ -243,11 +252,11 @@ fn apply_plan(met: &mut Met, head: &Head, plan: PlanEntry) -> Result<(), LoadErr
     requires ranges { IsEntry (entries.Planned plan) }
     requires long { length (spelling (entries.Planned plan)) ≡ head.now.bytes }
     ensures fair { IsErrOf result LoadError.Failed → ⊥ }
-    ensures more { (h : History) → IsReached head.now.gate h met.old.directory.changes met.old.plans.items → Loads met.old.loader (changes h) →
-        OnOk result (IsGoneOver head.now.gate h (spelling (entries.Planned plan)) met.new.directory.changes met.new.plans.items (loaded met.new.loader)) }
-    ensures bad { (h : History) → IsReached head.now.gate h met.old.directory.changes met.old.plans.items →
+    ensures more { (h : History) → IsReached head.now.gate h met.old.directory.changes met.old.plans.items met.old.marked → Loads met.old.loader (changes h) →
+        OnOk result (IsGoneOver head.now.gate h (spelling (entries.Planned plan)) met.new.directory.changes met.new.plans.items met.new.marked (loaded met.new.loader)) }
+    ensures bad { (h : History) → IsReached head.now.gate h met.old.directory.changes met.old.plans.items met.old.marked →
         (at : ℕ) → IsErrOf result (LoadError.NotArchive at) → IsFaulty head.now.gate h (spelling (entries.Planned plan)) at }
-    ensures kept { (at : ℕ) → IsErrOf result (LoadError.NotArchive at) → (met.new.directory.changes ≡ met.old.directory.changes) × (met.new.plans.items ≡ met.old.plans.items) × (loaded met.new.loader ≡ loaded met.old.loader) }
+    ensures kept { (at : ℕ) → IsErrOf result (LoadError.NotArchive at) → (met.new.directory.changes ≡ met.old.directory.changes) × (met.new.plans.items ≡ met.old.plans.items) × (met.new.marked ≡ met.old.marked) × (loaded met.new.loader ≡ loaded met.old.loader) }
 {
     if !is_timely(&met.directory, &plan) {
         return Err(LoadError::NotArchive { at: head.gate });
@@ -257,6 +266,23 @@ fn apply_plan(met: &mut Met, head: &Head, plan: PlanEntry) -> Result<(), LoadErr
         gate: head.gate,
         plan,
     });
+    Ok(())
+}
+
+/// Adds the mark of a journal that may have batches. There is one at most.
+fn apply_mark(met: &mut Met, head: &Head) -> Result<(), LoadError>
+    requires long { length (spelling entries.Format) ≡ head.now.bytes }
+    ensures fair { IsErrOf result LoadError.Failed → ⊥ }
+    ensures more { (h : History) → IsReached head.now.gate h met.old.directory.changes met.old.plans.items met.old.marked → Loads met.old.loader (changes h) →
+        OnOk result (IsGoneOver head.now.gate h (spelling entries.Format) met.new.directory.changes met.new.plans.items met.new.marked (loaded met.new.loader)) }
+    ensures bad { (h : History) → IsReached head.now.gate h met.old.directory.changes met.old.plans.items met.old.marked →
+        (at : ℕ) → IsErrOf result (LoadError.NotArchive at) → IsFaulty head.now.gate h (spelling entries.Format) at }
+    ensures kept { (at : ℕ) → IsErrOf result (LoadError.NotArchive at) → (met.new.directory.changes ≡ met.old.directory.changes) × (met.new.plans.items ≡ met.old.plans.items) × (met.new.marked ≡ met.old.marked) × (loaded met.new.loader ≡ loaded met.old.loader) }
+{
+    if met.marked {
+        return Err(LoadError::NotArchive { at: head.gate });
+    }
+    met.marked = true;
     Ok(())
 }
 

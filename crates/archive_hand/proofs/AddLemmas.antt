@@ -1,5 +1,5 @@
 -- What an archive stands for with an entry more, and what stays so on its disk.
-use Rattle.std.proofs.Common.{◌≡◌, ◌⊎◌, ℕ, ◌+◌, ◌-◌, ◌≤◌, List, [], ◌∷◌, ◌++◌, length, All, inl, refl, ap, subst, sym, ◌∙◌, arith}
+use Rattle.std.proofs.Common.{◌≡◌, ◌⊎◌, ℕ, ◌+◌, ◌-◌, ◌≤◌, true, false, None, List, [], ◌∷◌, ◌++◌, length, All, inl, refl, ap, subst, sym, ◌∙◌, arith}
 use Rattle.std.proofs.lemmas.List.{length_push}
 use Rattle.std.proofs.lemmas.List.Elements.{All-weaker}
 use Rattle.machine_model.specs.Areas.{Bytes}
@@ -17,20 +17,22 @@ use Rattle.machine_model.specs.declared.range.Range.{Range}
 use Rattle.pages_area.specs.Crash.{ChangesOnly}
 use Rattle.journal_entries.specs.Spelling.{spelling}
 use Rattle.journal_entries.specs.declared.entry.Entry.{Entry}
-use Rattle.journal_entries.specs.declared.entry.Entry.TheVariants.{Arrive, Delete, Planned}
-use Rattle.model_archive.specs.Histories.{History, changes, end_of}
+use Rattle.journal_entries.specs.declared.entry.Entry.TheVariants.{Arrive, Delete, Planned, Format}
+use Rattle.model_archive.specs.Histories.{History, changes, end_of, is_mark}
 use Rattle.model_archive.specs.Plans.{live_plans}
 use Rattle.model_archive.proofs.HoldLemmas.{same_live}
 use Rattle.model_archive.specs.Stands.{bodies_of}
-use Rattle.model_archive.proofs.HistoryLemmas.{bodies_of-push, end_of-push, end_of-least, loadable-push, entry_loads}
+use Rattle.model_archive.proofs.HistoryLemmas.{bodies_of-push, end_of-push, end_of-least, loadable-push, entry_loads, marked_push, unmarked_push}
+use Rattle.model_archive.proofs.OutcomeLemmas.{mark_legal}
+use Rattle.model_archive.specs.Steps.{mark_refusal}
 use Rattle.archive_hand.specs.States.{ArchiveState, StandsFor}
 use Rattle.archive_plans.specs.Shelves.{ShelfState}
 use Rattle.lists_index.specs.Indexes.{IsPreparedFor}
 use Rattle.lists_index.specs.declared.prepared.Prepared.{Prepared as Words}
 use Rattle.archive_hand.specs.Adding.{IsMore}
 use Rattle.archive_entries.specs.Entries.{IsNext, IsHeld, Makes, document_of, text_of}
-use Rattle.archive_entries.proofs.IndexLemmas.{change_comes}
-use Rattle.archive_entries.proofs.PlaceLemmas.{placed_more}
+use Rattle.archive_entries.proofs.IndexLemmas.{change_comes, changes_marked}
+use Rattle.archive_entries.proofs.PlaceLemmas.{placed_mark, placed_more}
 use Rattle.machine_model.specs.Calls.{OnlyReads}
 
 -- ---- an entry more
@@ -39,6 +41,13 @@ makes_document : (e : Entry) (x : Change ℕ) → Makes e x → document_of e �
 makes_document (Arrive doc at text) x makes = makes.0
 makes_document (Delete doc at) x makes = makes.0
 makes_document (Planned plan) x makes = absurd makes
+makes_document Format x makes = absurd makes
+
+makes_unmarked : (e : Entry) (x : Change ℕ) → Makes e x → is_mark e ≡ false
+makes_unmarked (Arrive doc at text) x makes = refl
+makes_unmarked (Delete doc at) x makes = refl
+makes_unmarked (Planned plan) x makes = refl
+makes_unmarked Format x makes = absurd makes
 
 pub stands_more : (a b : ArchiveState) (h : History) (e : Entry) (x : Change ℕ) (body : List ℕ) (words : Words)
     → StandsFor a h → IsNext h e x body → IsPreparedFor a.index (document_of e) (text_of e) words → IsMore a b x body words → StandsFor b (h ++ e ∷ [])
@@ -57,6 +66,25 @@ stands_more a b h e x body words stands next prepared more =
       index_is = rw comes.1 (more.indexed (changes h) x.doc (text_of e) stands.index_is (rw (makes_document e x next.makes) at prepared) comes.2);
       plans_are = ap (λ (s : ShelfState). s.plans) more.shelf_is ∙ stands.plans_are ∙ sym live;
       pages_are = rw (more.shelf_is, live) stands.pages_are;
+      marked_is = more.marked_is ∙ stands.marked_is ∙ sym (unmarked_push h e (makes_unmarked e x next.makes));
+    }
+
+-- an archive with the mark
+abbrev pub with_mark : ArchiveState → ℕ → ArchiveState
+with_mark a end = record a { end = end; live = true; length = a.length + 1; marked = true }
+
+pub stands_marked : (a : ArchiveState) (h : History) (end : ℕ) → StandsFor a h → mark_refusal h ≡ None → end ≡ a.end + 8 → StandsFor (with_mark a end) (h ++ Format ∷ [])
+stands_marked a h end stands none at =
+    let live : live_plans (h ++ Format ∷ []) ≡ live_plans h = same_live h Format tt in
+    record {
+      loadable = loadable-push h Format stands.loadable (entry_loads h Format (mark_legal h none));
+      end_is = omega (arith, at, stands.end_is, end_of-push h Format);
+      length_is = omega (arith, stands.length_is, length_push h Format);
+      changes_are = placed_mark h a.changes stands.changes_are;
+      index_is = rw (changes_marked h) stands.index_is;
+      plans_are = stands.plans_are ∙ sym live;
+      pages_are = rw live stands.pages_are;
+      marked_is = sym (marked_push h);
     }
 
 -- the bodies of a history with an entry more

@@ -23,6 +23,7 @@ stands_but_cache a b h same stands =
       index_is = stands.index_is;
       plans_are = stands.plans_are;
       pages_are = stands.pages_are;
+      marked_is = stands.marked_is;
     })
 
 -- where the cache and Pages are as they were

@@ -63,10 +63,10 @@ pages_reads a b c keeps same =
 -- ---- the archive, or why there is none
 
 -- the archive of what was gone over
-pub stands_replayed : (h : History) (live : Bool) (heads : List Head) (changes : List (Change TextPlace)) (index : IndexState) (plans : List StoredPlan) (shelf : ShelfState) (end : ℕ)
-    → end ≡ end_of h → length heads ≡ length h → IsReplayed h heads changes plans → Indexes index (histories.changes h) → shelf.plans ≡ plans → HasTaken shelf.pages (extents_all plans)
-    → StandsFor (record { end = end; live = live; length = length heads; changes = changes; index = index; shelf = shelf }) h
-stands_replayed h live heads changes index plans shelf end at many replayed indexed same taken = record {
+pub stands_replayed : (h : History) (live : Bool) (heads : List Head) (changes : List (Change TextPlace)) (index : IndexState) (plans : List StoredPlan) (shelf : ShelfState) (end : ℕ) (marked : Bool)
+    → end ≡ end_of h → length heads ≡ length h → IsReplayed h heads changes plans → Indexes index (histories.changes h) → shelf.plans ≡ plans → HasTaken shelf.pages (extents_all plans) → marked ≡ histories.is_marked h
+    → StandsFor (record { end = end; live = live; length = length heads; changes = changes; index = index; shelf = shelf; marked = marked }) h
+stands_replayed h live heads changes index plans shelf end marked at many replayed indexed same taken mark = record {
   loadable = replayed.loadable;
   end_is = at;
   length_is = many;
@@ -74,6 +74,7 @@ stands_replayed h live heads changes index plans shelf end at many replayed inde
   index_is = indexed;
   plans_are = same ∙ replayed.plans_are;
   pages_are = subst (λ (l : List StoredPlan). HasTaken shelf.pages (extents_all l)) replayed.plans_are taken;
+  marked_is = mark;
 }
 
 -- bodies of which one is bad are no archive's

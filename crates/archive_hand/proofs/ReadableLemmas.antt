@@ -7,7 +7,7 @@ use Rattle.base_types.specs.declared.extent.Extent.{Extent}
 use Rattle.pages_area.specs.Live.{IsInside}
 use Rattle.journal_entries.specs.Spelling.{spelling}
 use Rattle.journal_entries.specs.PlanSpelling.{IsPlanEntry}
-use Rattle.journal_entries.specs.declared.entry.Entry.TheVariants.{Arrive, Delete, Planned}
+use Rattle.journal_entries.specs.declared.entry.Entry.TheVariants.{Arrive, Delete, Planned, Format}
 use Rattle.journal_entries.specs.declared.place.Place.{Place}
 use Rattle.plans_kinds.specs.Plans.{IsFitFor}
 use Rattle.model_archive.specs.declared.stored.StoredPlan.{StoredPlan}
@@ -26,6 +26,7 @@ with_one : (before : History) (gate : ℕ) (live : List StoredPlan) (h : History
 with_one before gate live [] each all = all
 with_one before gate live (Arrive doc at text ∷ h) each all = with_one (before ++ Arrive doc at text ∷ []) (gate + 5 + length (spelling (Arrive doc at text))) live h each.1 all
 with_one before gate live (Delete doc at ∷ h) each all = with_one (before ++ Delete doc at ∷ []) (gate + 5 + length (spelling (Delete doc at))) live h each.1 all
+with_one before gate live (Format ∷ h) each all = with_one (before ++ Format ∷ []) (gate + 5 + length (spelling Format)) live h each.1 all
 with_one before gate live (Planned plan ∷ h) each all =
     let new : StoredPlan = record { gate = gate; plan = plan } in
     with_one (before ++ Planned plan ∷ []) (gate + 5 + length (spelling (Planned plan))) (with_plan live new) h each.1

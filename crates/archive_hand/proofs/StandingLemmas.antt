@@ -29,7 +29,7 @@ use Rattle.model_archive.specs.Legal.{IsLoadable}
 use Rattle.model_archive.specs.Planning.{OfBoundaries, OfList, OfPhrase, OfWidth, last_second}
 use Rattle.model_archive.specs.Plans.{live_extents}
 use Rattle.model_archive.specs.Stands.{EachStands, Stands, bodies_of}
-use Rattle.model_archive.specs.Steps.{Reply, Adds, AddsPlan, CarriesOut, Declines, Step, StoresPlan, arrival_refusal, deletion_refusal, full_journal, in_blocks, spelled_key}
+use Rattle.model_archive.specs.Steps.{Reply, Adds, AddsPlan, CarriesOut, Declines, Step, StoresPlan, arrival_refusal, deletion_refusal, mark_refusal, full_journal, in_blocks, spelled_key}
 use Rattle.model_archive.specs.Worlds.{world_of}
 use Rattle.model_archive.proofs.ChosenLemmas.{held_undamaged, made_at, made_over}
 use Rattle.model_archive.proofs.HistoryLemmas.{loadable-middle}
@@ -125,6 +125,7 @@ command_more : (h : History) (c : Command) (reply : Reply) (next : History) → 
 command_more h (commands.Arrive doc at (texts.Bytes text)) reply next step = adds_more h (entries.Arrive doc at text) (arrival_refusal h doc at text) reply next step
 command_more h (commands.Arrive doc at (texts.TooLong bytes)) reply next step = inl step.0
 command_more h (commands.Delete doc at) reply next step = adds_more h (entries.Delete doc at) (deletion_refusal h doc at) reply next step
+command_more h commands.Format reply next step = adds_more h entries.Format (mark_refusal h) reply next step
 command_more h (commands.Plan phrase kind factor) reply next step =
     phrase_of kind h (spelled_key (one_term phrase)) (IsMore h next)
     (map_phrase kind h (spelled_key (one_term phrase)) (λ why. Declines h why reply next) (λ why. IsMore h next) (λ word list. StoresPlan h kind factor word list reply next) (λ word list. IsMore h next)
@@ -143,6 +144,7 @@ held_next s next standing stocks loads (inr (e, is)) = subst (λ (h : History). 
     go : (e : Entry) → next.history ≡ s.history ++ e ∷ [] → HoldsPlans (s.history ++ e ∷ []) next.pages
     go (entries.Arrive doc at text) is = held_push IsFitFor s.history (entries.Arrive doc at text) next.pages tt standing.loadable (loadable-middle s.history (entries.Arrive doc at text) [] (subst IsLoadable is loads)).1.allowed now
     go (entries.Delete doc at) is = held_push IsFitFor s.history (entries.Delete doc at) next.pages tt standing.loadable (loadable-middle s.history (entries.Delete doc at) [] (subst IsLoadable is loads)).1.allowed now
+    go entries.Format is = held_push IsFitFor s.history entries.Format next.pages tt standing.loadable (loadable-middle s.history entries.Format [] (subst IsLoadable is loads)).1.allowed now
     go (entries.Planned plan) is = held_with IsFitFor s.history plan next.pages standing.loadable (subst (λ (h : History). AreApart (live_extents h)) is stocks.apart) now (subst (λ (h : History). HoldsPlan h next.pages plan) is (stocks.held plan is))
 
 -- a step that leaves the history and the pages
@@ -185,6 +187,7 @@ spanned s span expr reply next standing (Err place, read, is, asks) =
 pub step_standing : (s : Store) (item : Item) (reply : Reply) (next : Store) → IsStanding s → HasDocument item → StoreStep s item reply next → Step (world_of s.history) item reply (world_of next.history) × IsStanding next
 step_standing s (items.Command (commands.Arrive doc at text)) reply next standing range (step, stocks) = changed s next (commands.Arrive doc at text) reply standing range step step stocks
 step_standing s (items.Command (commands.Delete doc at)) reply next standing range (step, stocks) = changed s next (commands.Delete doc at) reply standing range step step stocks
+step_standing s (items.Command commands.Format) reply next standing range (step, stocks) = changed s next commands.Format reply standing range step step stocks
 step_standing s (items.Command (commands.Plan word kind fraction)) reply next standing range (step, stocks) = changed s next (commands.Plan word kind fraction) reply standing range step step stocks
 step_standing s (items.Command (commands.Find at expr)) reply next standing range step = found s at expr reply next standing step
 step_standing s (items.Command (commands.Between span expr)) reply next standing range step = spanned s span expr reply next standing step

@@ -18,7 +18,7 @@ use Rattle.model_archive.specs.Histories.{History, end_of}
 use Rattle.model_archive.specs.Legal.{IsLegalEntry}
 use Rattle.model_archive.specs.Planning.{IsListUpTo}
 use Rattle.model_archive.specs.Plans.{with_plan, live_plans, live_extents}
-use Rattle.model_archive.proofs.HistoryLemmas.{end_of-push, loadable-push, entry_loads}
+use Rattle.model_archive.proofs.HistoryLemmas.{end_of-push, loadable-push, entry_loads, unmarked_push}
 use Rattle.model_archive.proofs.LiveLemmas.{live_plans-push}
 use Rattle.model_archive.proofs.StoringLemmas.{plan_legal}
 use Rattle.archive_hand.specs.Adding.{HasSameShelf}
@@ -84,6 +84,7 @@ stands_planned a h draft end count last r shelf stands is at ready ends placed p
       index_is = subst (λ (cs : List (Change (List ℕ))). Indexes a.index cs) (sym (changes_still h plan)) stands.index_is;
       plans_are = plans;
       pages_are = subst (λ (l : List StoredPlan). HasTaken shelf.pages (extents_all l)) plans pages;
+      marked_is = stands.marked_is ∙ sym (unmarked_push h (Planned plan) refl);
     }
 
 -- a disk that reached as far as the live plans reaches as far with one more, whose places it reaches
@@ -115,4 +116,5 @@ stands_still a h shelf stands plans pages = record {
   index_is = stands.index_is;
   plans_are = plans ∙ stands.plans_are;
   pages_are = pages;
+  marked_is = stands.marked_is;
 }

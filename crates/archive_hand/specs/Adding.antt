@@ -26,6 +26,7 @@ pub record IsMore (old new : ArchiveState) (change : Change ℕ) (body : List �
   pub held_is : IsHeld (old.end + 17) change.held held
   pub changes_are : new.changes ≡ old.changes ++ record { doc = change.doc; at = change.at; held = held } ∷ []
   pub shelf_is : new.shelf ≡ old.shelf
+  pub marked_is : new.marked ≡ old.marked
   pub indexed : (texts : List (Change (List ℕ))) (doc : DocId) (text : Option (List ℕ)) → Indexes old.index texts → IsPreparedFor old.index doc text words
       → ComesLater texts (record { doc = doc; at = change.at; held = text }) → Indexes new.index (texts ++ record { doc = doc; at = change.at; held = text } ∷ [])
 
@@ -42,6 +43,7 @@ pub record IsSpent (old new : ArchiveState) : Type 0 where
   pub changes_are : new.changes ≡ old.changes
   pub index_is : seen new.index ≡ seen old.index
   pub shelf_is : HasSameShelf old.shelf new.shelf
+  pub marked_is : new.marked ≡ old.marked
   pub live_is : new.live ≡ false
 
 -- a change was made or refused, and so the archive isn't spent

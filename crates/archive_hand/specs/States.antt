@@ -10,7 +10,7 @@ use Rattle.lists_versions.specs.declared.change.Change.{Change}
 use Rattle.pages_area.specs.Caches.{StandsFor as IsCacheOf}
 use Rattle.pages_area.specs.Live.{AreLive, IsInside}
 use Rattle.pages_area.specs.Taken.{HasTaken}
-use Rattle.model_archive.specs.Histories.{History, changes, end_of}
+use Rattle.model_archive.specs.Histories.{History, changes, end_of, is_marked}
 use Rattle.model_archive.specs.Legal.{IsLoadable}
 use Rattle.model_archive.specs.Plans.{live_plans, live_extents}
 use Rattle.model_archive.specs.Holding.{HoldsPlans}
@@ -22,7 +22,7 @@ use Rattle.model_archive.specs.Stands.{bodies_of}
 use Rattle.archive_hand.specs.Stored.{Store, HasSame}
 
 -- an open archive: where its journal ends, whether it may be changed, how many entries it has, the changes of documents with
--- the places of the texts, the index of the texts, and the live plans with the free pages and the pages that are kept
+-- the places of the texts, the index of the texts, the live plans with the free pages and the pages that are kept, and whether it has the mark
 pub record ArchiveState : Type 0 where
   pub end : ℕ
   pub live : Bool
@@ -30,6 +30,7 @@ pub record ArchiveState : Type 0 where
   pub changes : List (Change TextPlace)
   pub index : IndexState
   pub shelf : ShelfState
+  pub marked : Bool
 
 -- an open archive stands for a history
 pub record StandsFor (archive : ArchiveState) (history : History) : Type 0 where
@@ -40,6 +41,7 @@ pub record StandsFor (archive : ArchiveState) (history : History) : Type 0 where
   pub index_is : Indexes archive.index (changes history)
   pub plans_are : archive.shelf.plans ≡ live_plans history
   pub pages_are : HasTaken archive.shelf.pages (live_extents history)
+  pub marked_is : archive.marked ≡ is_marked history
 
 -- a disk of these lengths reaches as far as an open archive: what it may read is there
 abbrev pub Reaches : Both ℕ → ArchiveState → Type 0

@@ -10,8 +10,9 @@ ghost use Rattle.base_types.specs.Limits.{limit_of};
 ghost use Rattle.journal_gates.specs.InStep.{IsInStep};
 ghost use Rattle.journal_gates.specs.Crash.{Appends, KeepsPages};
 ghost use Rattle.model_archive.specs.Histories.{History};
-ghost use Rattle.model_archive.specs.Steps.{arrival_refusal, deletion_refusal};
+ghost use Rattle.model_archive.specs.Steps.{arrival_refusal, deletion_refusal, mark_refusal};
 ghost use Rattle.model_archive.specs.Plans.{live_extents};
+ghost use Rattle.journal_entries.specs.Spelling.{spelling};
 ghost use Rattle.journal_entries.specs.declared.plan.PlanEntry.{PlanEntry};
 ghost use Rattle.archive_hand.specs.Storing.{IsDraft, IsStoredAs, IsStoredBy};
 ghost use Rattle.archive_plans.specs.Readying.{IsFull, summary_of, tells_of};
@@ -32,6 +33,7 @@ use archive_entries::{
 };
 use archive_plans::{Draft, PlanReport, Shelf, make_ready};
 use base_types::{DocId, Span, Time, Which};
+use journal_entries::encode_format;
 use journal_gates::{Frame, Journal};
 use lists_index::Index;
 use lists_versions::Directory;
@@ -41,6 +43,12 @@ use pages_sublists::{FetchError, Gathered};
 use std::alloc::Global;
 use std::marker::Model;
 
+/// The bytes of a record before its body: the gate and the length.
+const GATE_BYTES: u64 = 5;
+
+/// The bytes of the mark's body.
+const FORMAT_BYTES: u64 = 3;
+
 /// An open archive.
 #[derive(Drop)]
 pub struct Archive {
@@ -49,6 +57,7 @@ pub struct Archive {
     index: Index,
     shelf: Shelf,
     entries: u64,
+    marked: bool,
     live: bool,
 }
 
@@ -61,26 +70,27 @@ impl Model for Archive {
 
     ghost Value = { ArchiveState };
 
-    ghost view = { λ a. record { end = a.journal.end; live = a.live; length = a.entries; changes = a.directory.changes; index = state_of a.index; shelf = a.shelf } };
+    ghost view = { λ a. record { end = a.journal.end; live = a.live; length = a.entries; changes = a.directory.changes; index = state_of a.index; shelf = a.shelf; marked = a.marked } };
 
     // It stands for a history, which it shows on any disk.
     ghost invariant = { λ a. (IsTrue a.live → IsTrue a.journal.live) × (a.entries + new_bytes ≤ a.journal.end)
-        × ((h : History) × StandsFor (record { end = a.journal.end; live = a.live; length = a.entries; changes = a.directory.changes; index = state_of a.index; shelf = a.shelf }) h) };
+        × ((h : History) × StandsFor (record { end = a.journal.end; live = a.live; length = a.entries; changes = a.directory.changes; index = state_of a.index; shelf = a.shelf; marked = a.marked }) h) };
 }
 
 impl Archive {
-    // The archive of a journal, by the changes of its entries, the index of their texts and the live plans.
-    // It is live where the journal is.
+    // The archive of a journal, by the changes of its entries, the index of their texts, the live plans, and whether
+    // the mark is among the entries. It is live where the journal is.
     pub(crate) fn of(
         journal: Journal,
         directory: Directory,
         index: Index,
         shelf: Shelf,
         entries: u64,
+        marked: bool,
     ) -> Archive
         requires few { entries + new_bytes ≤ journal.end }
-        requires stands { (h : History) × StandsFor (record { end = journal.end; live = journal.live; length = entries; changes = directory.changes; index = state_of index; shelf = shelf }) h }
-        ensures { result ≡ record { end = journal.end; live = journal.live; length = entries; changes = directory.changes; index = state_of index; shelf = shelf } }
+        requires stands { (h : History) × StandsFor (record { end = journal.end; live = journal.live; length = entries; changes = directory.changes; index = state_of index; shelf = shelf; marked = marked }) h }
+        ensures { result ≡ record { end = journal.end; live = journal.live; length = entries; changes = directory.changes; index = state_of index; shelf = shelf; marked = marked } }
     {
         let live = journal.is_live();
         Archive {
@@ -89,6 +99,7 @@ impl Archive {
             index,
             shelf,
             entries,
+            marked,
             live,
         }
     }
@@ -106,6 +117,13 @@ impl Archive {
         ensures { result ≡ self.now.length }
     {
         self.entries
+    }
+
+    /// Whether its journal has the mark of one that may have batches. Constant cost.
+    pub fn has_format(&self) -> bool
+        ensures { result ≡ self.now.marked }
+    {
+        self.marked
     }
 
     /// The journal, whose end is the archive's. Constant cost.
@@ -304,7 +322,7 @@ impl Archive {
             body,
             words,
         } = prepared;
-        if Which::Journal.limit() < self.journal.end() + 5 + body.len() as u64 {
+        if Which::Journal.limit() < self.journal.end() + GATE_BYTES + body.len() as u64 {
             return Err(ChangeError::Refused(full_journal()));
         }
         self.live = false;
@@ -317,6 +335,52 @@ impl Archive {
             Ok(place) => {
                 note(&mut self.directory, placed(change, place + TEXT_AT));
                 self.index.commit(words, change.at);
+                self.entries += 1;
+                self.live = true;
+                Ok(self.entries)
+            }
+            Err(_) => Err(ChangeError::Failed),
+        }
+    }
+
+    /// Adds the mark of a journal that may have batches, and answers how many entries there are. At `Ok` it is
+    /// durable. All memory is taken before the first write.
+    ///
+    /// `Refused`: for the first cause in order, the journal has the mark, or it is full; nothing was changed.
+    /// `Failed`, `Memory`: the archive is spent, and keeps what it had.
+    /// Costs two synced writes.
+    pub fn mark<D: Disk>(&mut self, alloc: Global, disk: &mut D) -> Result<u64, ChangeError>
+        requires live { IsTrue self.old.live }
+        requires within { Reaches (D.disk disk.old).reach self.old }
+        ensures only { D.Disk.only disk.old disk.new }
+        ensures failed { IsErrOf result ChangeError.Failed → Rose (D.disk disk.old).faults (D.disk disk.new).faults }
+        ensures within { Reaches (D.disk disk.new).reach self.new }
+        ensures live { IsTrue self.new.live ↔ IsDone result }
+        ensures refused { (h : History) → StandsFor self.old h → (why : Refusal) → IsErrOf result (ChangeError.Refused why) → mark_refusal h ≡ Some why }
+        ensures allowed { (h : History) → StandsFor self.old h → (IsOk result ⊎ IsErrOf result ChangeError.Failed) → mark_refusal h ≡ None }
+        ensures same { (why : Refusal) → IsErrOf result (ChangeError.Refused why) → (self.new ≡ self.old) × (disk.new ≡ disk.old) }
+        // All memory is taken before the first call of the disk.
+        ensures memory { IsErrOf result ChangeError.Memory → disk.new ≡ disk.old }
+        ensures cached { D.disk_tells → CacheStands (D.disk disk.old) self.old → IsDone result → CacheStands (D.disk disk.new) self.new }
+        ensures spent { (IsErrOf result ChangeError.Memory ⊎ IsErrOf result ChangeError.Failed) → IsSpent self.old self.new }
+        ensures stands { (h : History) → StandsFor self.old h → IfOk result (λ n. StandsFor self.new (h ++ entries.Format ∷ []) × (n ≡ length h + 1)) }
+        ensures crash { D.disk_tells → (bodies : List (List ℕ)) → IsInStep (D.disk disk.old) self.old.end bodies → Appends bodies (spelling entries.Format) (D.disk disk.old) (D.disk disk.new) }
+        ensures in_step { D.disk_tells → (bodies : List (List ℕ)) → IsInStep (D.disk disk.old) self.old.end bodies → OnOk result (IsInStep (D.disk disk.new) self.new.end (bodies ++ spelling entries.Format ∷ [])) }
+        ensures pages { D.disk_tells → KeepsPages (D.disk disk.old) (D.disk disk.new) }
+        ensures pages_hold { D.disk_tells → OnOk result ((D.disk disk.new).holds.pages ≡ (D.disk disk.old).holds.pages) }
+    {
+        if self.marked {
+            return Err(ChangeError::Refused(Refusal::HasFormat));
+        }
+        if Which::Journal.limit() < self.journal.end() + GATE_BYTES + FORMAT_BYTES {
+            return Err(ChangeError::Refused(full_journal()));
+        }
+        self.live = false;
+        let body = encode_format(alloc)?;
+        let frame = Frame::new(alloc, &body)?;
+        match self.journal.append(disk, &frame) {
+            Ok(_) => {
+                self.marked = true;
                 self.entries += 1;
                 self.live = true;
                 Ok(self.entries)

@@ -97,8 +97,16 @@ fn archive_of<D: Disk>(
         directory,
         index,
         plans,
+        marked,
     } = replayed;
     let reach = disk.length(Area::Pages)?;
     let shelf = Shelf::of(alloc, plans, reach)?;
-    Ok(Archive::of(journal, directory, index, shelf, heads.len() as u64))
+    Ok(Archive::of(
+        journal,
+        directory,
+        index,
+        shelf,
+        heads.len() as u64,
+        marked,
+    ))
 }

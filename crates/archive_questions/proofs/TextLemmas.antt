@@ -13,7 +13,7 @@ use Rattle.lists_versions.proofs.Mapped.{held_at-mapped}
 use Rattle.lists_versions.proofs.Holding.{held_has}
 use Rattle.journal_entries.specs.Spelling.{spelling}
 use Rattle.journal_entries.specs.declared.entry.Entry.{Entry}
-use Rattle.journal_entries.specs.declared.entry.Entry.TheVariants.{Arrive, Delete, Planned}
+use Rattle.journal_entries.specs.declared.entry.Entry.TheVariants.{Arrive, Delete, Planned, Format}
 use Rattle.model_archive.specs.Histories.{History, text_at}
 use Rattle.model_archive.specs.Stands.{bodies_of}
 use Rattle.journal_gates.specs.InStep.{IsInStep}
@@ -57,6 +57,7 @@ places_lie end gate (e ∷ h) within =
     one_lies end gate (Arrive doc t text) within = All-cons (λ c. LiesBy end c.held) _ [] (omega (arith, within)) (All-nil (λ c. LiesBy end c.held))
     one_lies end gate (Delete doc t) within = All-cons (λ c. LiesBy end c.held) _ [] tt (All-nil (λ c. LiesBy end c.held))
     one_lies end gate (Planned plan) within = All-nil (λ c. LiesBy end c.held)
+    one_lies end gate Format within = All-nil (λ c. LiesBy end c.held)
 
 pub all_lie : (a : ArchiveState) (h : History) → StandsFor a h → All (λ c. LiesIn a.end c.held) a.changes
 all_lie a h stands =

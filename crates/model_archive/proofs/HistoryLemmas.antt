@@ -1,5 +1,5 @@
 -- One entry more: the end of the journal, the bodies, and what makes a longer history legal.
-use Rattle.std.proofs.Common.{◌≡◌, ℕ, ◌+◌, ◌≤◌, List, [], ◌∷◌, ◌++◌, length, sum_by, refl, ap, subst, sym, ◌∙◌, arith, append_assoc, length-append}
+use Rattle.std.proofs.Common.{◌≡◌, ℕ, ◌+◌, ◌≤◌, Bool, true, false, ◌||◌, List, [], ◌∷◌, ◌++◌, length, sum_by, refl, ap, subst, sym, ◌∙◌, arith, append_assoc, length-append}
 use Rattle.std.proofs.lemmas.List.{append-nil, map-append}
 use Rattle.std.proofs.lemmas.List.Concat.{flat_map-append}
 use Rattle.std.proofs.lemmas.List.Sums.{sum_by-cons, sum_by_push}
@@ -13,7 +13,7 @@ use Rattle.journal_entries.proofs.EntryLemmas.{one_entry}
 use Rattle.journal_entries.specs.declared.entry.Entry.TheVariants.{Arrive, Delete, Planned, Format}
 use Rattle.plans_kinds.specs.Plans.{Asks, IsGoodPlan, IsFitFor}
 use Rattle.plans_kinds.proofs.GoodLemmas.{good_is_fit}
-use Rattle.model_archive.specs.Histories.{History, changes, acts, end_of}
+use Rattle.model_archive.specs.Histories.{History, changes, acts, end_of, is_mark, is_marked}
 use Rattle.model_archive.specs.Legal.{MayCome, EachMayCome, IsLegalEntry, IsLegal, IsLoadableEntry, IsLoadable}
 use Rattle.model_archive.specs.Stands.{bodies_of}
 
@@ -80,6 +80,19 @@ loadable-push h e loads next = come-push IsFitFor h e loads next
 
 pub loadable-middle : (h : History) (e : Entry) (rest : History) → IsLoadable (h ++ e ∷ rest) → IsLoadable h × IsLoadableEntry h e
 loadable-middle h e rest loads = come-middle IsFitFor h e rest loads
+
+-- whether the mark is among a history's entries, with one more
+pub unmarked_push : (h : History) (e : Entry) → is_mark e ≡ false → is_marked (h ++ e ∷ []) ≡ is_marked h
+unmarked_push [] e none = ap (λ (b : Bool). b || false) none
+unmarked_push (x ∷ h) e none = ap (λ (b : Bool). is_mark x || b) (unmarked_push h e none)
+
+pub marked_push : (h : History) → is_marked (h ++ Format ∷ []) ≡ true
+marked_push [] = refl
+marked_push (x ∷ h) = ap (λ (b : Bool). is_mark x || b) (marked_push h) ∙ or_true (is_mark x)
+  where
+    or_true : (b : Bool) → (b || true) ≡ true
+    or_true true = refl
+    or_true false = refl
 
 -- a legal history loads
 pub entry_loads : (before : History) (e : Entry) → IsLegalEntry before e → IsLoadableEntry before e

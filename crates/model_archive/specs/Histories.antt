@@ -1,6 +1,6 @@
 -- The history of an archive: what it is, why a change of it is refused, and which texts are alive at a time.
-use Rattle.std.specs.Prelude.{ℕ, ◌+◌, nat_lt, Bool, true, false, list_any, List, [], ◌∷◌, ◌++◌, length, sum_by, Option, Some, None}
-use Rattle.std.specs.List.{flat_map, filter_map}
+use Rattle.std.specs.Prelude.{ℕ, ◌+◌, nat_lt, Bool, true, false, List, [], ◌∷◌, ◌++◌, length, sum_by, Option, Some, None}
+use Rattle.std.specs.List.{flat_map, filter_map, list_any}
 use Rattle.std.specs.Option.{option_map}
 use Rattle.base_types.specs.Limits.{limit_of}
 use Rattle.base_types.specs.declared.ids.DocId.{DocId}

@@ -78,6 +78,7 @@ fn opened_by<D: Disk>(
         directory,
         index: _,
         plans,
+        marked: _,
     } = replayed;
     let reach = disk.length(Area::Pages)?;
     let shelf = Shelf::of(alloc, plans, reach)?;

@@ -13,7 +13,7 @@ ghost use Rattle.run_script.specs.Causes.{IsLeft};
 ghost use Rattle.run_script.specs.Outcomes.{CanGoOn, IsAnswered, Writes, WritesAnswer};
 
 use crate::stop::Halt;
-use archive_changes::{PlanReport, delete, plan};
+use archive_changes::{PlanReport, delete, mark_format, plan};
 use archive_check::VerifyError;
 use archive_entries::{Declined, ReadError};
 use archive_hand::{Archive, ChangeError};
@@ -52,6 +52,10 @@ pub(crate) fn answer<D: Disk>(
             let result = delete(alloc, disk, archive, doc, at);
             write_change(page, result)
         }
+        Command::Format => {
+            let result = mark_format(alloc, disk, archive);
+            write_change(page, result)
+        }
         Command::Find { at, expr } => {
             let result = find(alloc, disk, archive, at, &expr);
             write_answer(page, result)
@@ -84,7 +88,6 @@ pub(crate) fn answer<D: Disk>(
             let result = verify(alloc, disk, archive);
             write_verified(page, result)
         }
-        Command::Format => refuse(page, Refusal::Line),
         Command::Batch(_) => refuse(page, Refusal::Line),
         Command::Begin { .. } => refuse(page, Refusal::Line),
         Command::Top { .. } => refuse(page, Refusal::Line),

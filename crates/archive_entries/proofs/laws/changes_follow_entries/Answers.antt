@@ -1,4 +1,4 @@
-use Rattle.archive_entries.proofs.IndexLemmas.{words_are, word_list, change_comes, changes_still}
+use Rattle.archive_entries.proofs.IndexLemmas.{words_are, word_list, change_comes, changes_still, changes_marked}
 use Rattle.archive_entries.proofs.laws.changes_follow_entries.Goals as goal
 
 pub returns-clause-words : goal.returns-clause-words
@@ -12,3 +12,6 @@ returns-clause-change c = change_comes
 
 pub returns-clause-plan : goal.returns-clause-plan
 returns-clause-plan c = changes_still
+
+pub returns-clause-mark : goal.returns-clause-mark
+returns-clause-mark c = changes_marked

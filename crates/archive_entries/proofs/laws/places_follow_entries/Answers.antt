@@ -1,4 +1,4 @@
-use Rattle.archive_entries.proofs.PlaceLemmas.{bare_changes, placed_more, placed_plan, texts_are}
+use Rattle.archive_entries.proofs.PlaceLemmas.{bare_changes, placed_more, placed_plan, placed_mark, texts_are}
 use Rattle.archive_entries.proofs.laws.places_follow_entries.Goals as goal
 
 pub returns-clause-alike : goal.returns-clause-alike
@@ -12,3 +12,6 @@ returns-clause-change c = placed_more
 
 pub returns-clause-plan : goal.returns-clause-plan
 returns-clause-plan c = placed_plan
+
+pub returns-clause-mark : goal.returns-clause-mark
+returns-clause-mark c = placed_mark

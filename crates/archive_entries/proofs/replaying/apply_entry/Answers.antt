@@ -20,3 +20,8 @@ pub returns-in-Planned-clause-bad : goal.returns-in-Planned-clause-bad
 returns-in-Planned-clause-bad c = λ h reached loads at is.
     let F : Entry → Type 0 = λ e. IsFaulty c.args.head.now.gate h (spelling e) at in
     subst F (sym c.in-Planned.is) (c.apply_plan.ensures.bad h reached at is)
+
+pub returns-in-Format-clause-bad : goal.returns-in-Format-clause-bad
+returns-in-Format-clause-bad c = λ h reached loads at is.
+    let F : Entry → Type 0 = λ e. IsFaulty c.args.head.now.gate h (spelling e) at in
+    subst F (sym c.in-Format.is) (c.apply_mark.ensures.bad h reached at is)

@@ -13,6 +13,6 @@ returns-then-not-is_timely-clause-bad c = λ h reached at is.
 
 pub returns-clause-more : goal.returns-clause-more
 returns-clause-more c = λ h reached loads.
-    let P : List StoredPlan → Type 0 = λ l. IsGoneOver c.args.head.now.gate h (spelling (Planned c.args.plan)) c.args.met.now.directory.changes l (loaded c.args.met.now.loader) in
+    let P : List StoredPlan → Type 0 = λ l. IsGoneOver c.args.head.now.gate h (spelling (Planned c.args.plan)) c.args.met.now.directory.changes l c.args.met.now.marked (loaded c.args.met.now.loader) in
     subst P (sym (c.push_reserved.ensures.items ∙ ap (λ (l : List StoredPlan). l ++ record { gate = c.args.head.now.gate; plan = c.args.plan } ∷ []) c.in_ok-reserve.ensures.items))
     (plan_over c.args.head.now.gate h c.args.plan c.args.met.now.directory.changes c.args.met.now.plans.items (loaded c.args.met.now.loader) reached c.requires.ranges (c.is_timely.ensures.0 (let f = c.if-not-is_timely.false in search rules)) loads)

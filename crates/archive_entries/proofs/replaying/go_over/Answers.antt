@@ -14,8 +14,8 @@ loop-bodies-init g c = record {
   same = search rules;
   unread = search rules;
   end = c.bodies-bodies.ensures.end;
-  replaying = replaying_none g.D.Disk.disk_tells (g.D.Disk.disk c.args.disk.now).holds.journal c.args.heads.now c.bodies-bodies.result c.args.met.now.directory.changes c.args.met.now.plans.items (loaded c.args.met.now.loader)
-      c.requires.changes c.requires.plans c.requires.loads c.bodies-bodies.ensures.behind (c.bodies-bodies.ensures.left (g.D.Disk.disk c.args.disk.now).holds.journal);
+  replaying = replaying_none g.D.Disk.disk_tells (g.D.Disk.disk c.args.disk.now).holds.journal c.args.heads.now c.bodies-bodies.result c.args.met.now.directory.changes c.args.met.now.plans.items c.args.met.now.marked (loaded c.args.met.now.loader)
+      c.requires.changes c.requires.plans c.requires.marked c.requires.loads c.bodies-bodies.ensures.behind (c.bodies-bodies.ensures.left (g.D.Disk.disk c.args.disk.now).holds.journal);
 }
 
 pub apply-requires-clause-within : goal.apply-requires-clause-within
@@ -51,7 +51,7 @@ returns-in-Err-NotArchive-clause-reached g c =
       c.loop-bodies.bodies,
       (
         same_replaying g.D.Disk.disk_tells (g.D.Disk.disk c.args.disk.now).holds.journal c.args.heads.now c.loop-bodies.bodies c.loop-bodies.met.directory.changes c.apply.new.met.directory.changes
-            c.loop-bodies.met.plans.items c.apply.new.met.plans.items (loaded c.loop-bodies.met.loader) (loaded c.apply.new.met.loader) same.0 same.1 same.2 r,
+            c.loop-bodies.met.plans.items c.apply.new.met.plans.items c.loop-bodies.met.marked c.apply.new.met.marked (loaded c.loop-bodies.met.loader) (loaded c.apply.new.met.loader) same.0 same.1 same.2 same.3 r,
         (λ none. absurd cc),
         (λ at is tells bodies heads spelled.
             let there : c.in-Err-NotArchive.at ≡ at = sym c.in-Err-NotArchive.at-is ∙ some_is is in

@@ -13,5 +13,5 @@ invariant-loop-bodies g l = record {
   same : OnlyReads (g.D.Disk.disk l.fn.disk) (g.D.Disk.disk l.disk);
   unread : g.D.Disk.disk_tells → (g.D.Disk.disk l.disk).bytes_read.pages ≡ (g.D.Disk.disk l.fn.disk).bytes_read.pages;
   end : l.bodies.window.end ≡ l.journal.end;
-  replaying : IsReplaying g.D.Disk.disk_tells (g.D.Disk.disk l.fn.disk).holds.journal l.heads l.bodies l.met.directory.changes l.met.plans.items (loaded l.met.loader);
+  replaying : IsReplaying g.D.Disk.disk_tells (g.D.Disk.disk l.fn.disk).holds.journal l.heads l.bodies l.met.directory.changes l.met.plans.items l.met.marked (loaded l.met.loader);
 }

@@ -5,7 +5,7 @@ use Rattle.lists_index.specs.Loads.{loaded}
 use Rattle.lists_index.specs.Indexes.{state_of, Indexes}
 use Rattle.model_archive.specs.declared.stored.StoredPlan.{StoredPlan}
 use Rattle.model_archive.specs.Histories as histories
-use Rattle.model_archive.specs.Histories.{History}
+use Rattle.model_archive.specs.Histories.{History, is_marked}
 use Rattle.model_archive.specs.Plans.{with_plan}
 use Rattle.model_archive.specs.Stands.{bodies_of}
 use Rattle.archive_entries.specs.Replaying.{IsFitIn, IsFirstUnfit, IsReplayed, IsBadAmong}
@@ -34,7 +34,7 @@ returns-in-Some-fault-clause-bad g c = λ tells bodies heads spelled at is.
     subst (IsBadAmong bodies) same (next_among all.history bodies c.in-Some-fault.at all.reached.opens (subst F (c.deref.ensures.value ∙ all.reached.plans_are) fit) (r.1.2 c.in-Some-fault.at c.in-Some-fault.is tells bodies heads spelled))
 
 all_met : (g : Over) (c : goal.In_ok-plans g) → (h : History) × IsReplayed h c.args.heads.now c.go_over.new.met.directory.changes c.in_ok-plans.plans.items × Indexes (state_of c.in_ok-index.index) (histories.changes h)
-    × (g.D.Disk.disk_tells → (bodies : List (List ℕ)) → c.args.heads.now ≡ heads_of 16 bodies → Spells (g.D.Disk.disk c.args.disk.now).holds.journal bodies → bodies_of h ≡ bodies)
+    × (g.D.Disk.disk_tells → (bodies : List (List ℕ)) → c.args.heads.now ≡ heads_of 16 bodies → Spells (g.D.Disk.disk c.args.disk.now).holds.journal bodies → bodies_of h ≡ bodies) × (c.go_over.new.met.marked ≡ is_marked h)
 all_met g c =
     let r = c.in_ok-fault.ensures.reached in
     let all = r.1.0 in
@@ -52,13 +52,14 @@ all_met g c =
       },
       indexes,
       read.1,
+      all.reached.marked_is,
     )
 
 pub returns-clause-stands : goal.returns-clause-stands
-returns-clause-stands g c = let all = all_met g c in (all.0, all.1, all.2)
+returns-clause-stands g c = let all = all_met g c in (all.0, all.1, all.2, all.4)
 
 pub returns-clause-found : goal.returns-clause-found
-returns-clause-found g c = λ tells bodies heads spelled. let all = all_met g c in (all.0, all.1, all.2, all.3 tells bodies heads spelled)
+returns-clause-found g c = λ tells bodies heads spelled. let all = all_met g c in (all.0, all.1, all.2, all.3 tells bodies heads spelled, all.4)
 
 pub returns-clause-counted : goal.returns-clause-counted
 returns-clause-counted g c = λ h is.

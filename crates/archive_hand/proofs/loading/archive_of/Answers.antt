@@ -43,19 +43,19 @@ pub of-requires-2-clause-stands : goal.of-requires-2-clause-stands
 of-requires-2-clause-stands g c =
     let all = c.in_ok-replayed.ensures.stands in
     let counted = c.in_ok-replayed.ensures.counted all.0 all.1 in
-    (all.0, stands_replayed all.0 _ c.args.heads.now _ _ c.in_ok-replayed.replayed.plans.items c.in_ok-shelf.shelf c.args.journal.end counted.0 counted.1 all.1 all.2 c.in_ok-shelf.ensures.plans c.in_ok-shelf.ensures.taken)
+    (all.0, stands_replayed all.0 _ c.args.heads.now _ _ c.in_ok-replayed.replayed.plans.items c.in_ok-shelf.shelf c.args.journal.end _ counted.0 counted.1 all.1 all.2 c.in_ok-shelf.ensures.plans c.in_ok-shelf.ensures.taken all.3)
 
 -- it stands for each history of these entries
 stands : (g : Over) (c : goal.After-of-2 g) (h : History) → IsReplayed h c.args.heads.now c.in_ok-replayed.replayed.directory.changes c.in_ok-replayed.replayed.plans.items
-    → Indexes (state_of c.in_ok-replayed.replayed.index) (histories.changes h) → StandsFor c.of-2.result h
-stands g c h replayed indexed =
+    → Indexes (state_of c.in_ok-replayed.replayed.index) (histories.changes h) → c.in_ok-replayed.replayed.marked ≡ histories.is_marked h → StandsFor c.of-2.result h
+stands g c h replayed indexed marked =
     let counted = c.in_ok-replayed.ensures.counted h replayed in
-    rw c.of-2.ensures (stands_replayed h _ c.args.heads.now _ _ c.in_ok-replayed.replayed.plans.items c.in_ok-shelf.shelf c.args.journal.end counted.0 counted.1 replayed indexed c.in_ok-shelf.ensures.plans c.in_ok-shelf.ensures.taken)
+    rw c.of-2.ensures (stands_replayed h _ c.args.heads.now _ _ c.in_ok-replayed.replayed.plans.items c.in_ok-shelf.shelf c.args.journal.end _ counted.0 counted.1 replayed indexed c.in_ok-shelf.ensures.plans c.in_ok-shelf.ensures.taken marked)
 
 pub returns-clause-stands : goal.returns-clause-stands
 returns-clause-stands g c =
     let all = c.in_ok-replayed.ensures.stands in
-    (all.0, stands g c all.0 all.1 all.2)
+    (all.0, stands g c all.0 all.1 all.2 all.3)
 
 pub returns-clause-found : goal.returns-clause-found
 returns-clause-found g c = λ tells bodies laid_out spelled.

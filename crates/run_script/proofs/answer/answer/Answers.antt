@@ -6,7 +6,7 @@ use Rattle.run_script.proofs.OutcomeLemmas.{answers_by, refused_by}
 use Rattle.run_script.proofs.answer.answer.Goals as goal
 
 pub returns-in-Format-clause-outcome : goal.returns-in-Format-clause-outcome
-returns-in-Format-clause-outcome g c = λ tells s in_step. rw (c.in-Command.is, c.in-Format.is) (refused_by s (items.Command plain.Format) refusals.Line _ _ _ _ (refl, refl) in_step c.refuse-in-Format.ensures.goes_on c.refuse-in-Format.ensures.reply)
+returns-in-Format-clause-outcome g c = λ tells s in_step. rw (c.in-Command.is, c.in-Format.is) (answers_by s _ _ _ _ _ _ _ (c.mark_format-result.ensures.by_reads tells s in_step) c.write_change-in-Format.ensures.writes)
 
 pub returns-in-Batch-clause-outcome : goal.returns-in-Batch-clause-outcome
 returns-in-Batch-clause-outcome g c = λ tells s in_step. rw (c.in-Command.is, c.in-Batch.is) (refused_by s (items.Command (plain.Batch _)) refusals.Line _ _ _ _ (refl, refl) in_step c.refuse-in-Batch.ensures.goes_on c.refuse-in-Batch.ensures.reply)

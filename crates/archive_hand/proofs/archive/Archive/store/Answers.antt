@@ -36,7 +36,7 @@ returns-in-Err-clause-cached g c = λ tells cached is.
 
 -- the archive with the plan
 abbrev after : (g : Over) (c : goal.After-self-in-Ok-write_ready-2-1 g) → ArchiveState
-after g c = record { end = c.write_ready.new.journal.end; live = true; length = c.self.inside.entries + 1; changes = c.self.inside.directory.changes; index = state_of c.self.inside.index; shelf = c.write_ready.new.shelf }
+after g c = record { end = c.write_ready.new.journal.end; live = true; length = c.self.inside.entries + 1; changes = c.self.inside.directory.changes; index = state_of c.self.inside.index; shelf = c.write_ready.new.shelf; marked = c.self.inside.marked }
 
 -- the archive with the plan stands for a history more
 planned : (g : Over) (c : goal.After-self-in-Ok-write_ready-2-1 g) (h : History) → StandsFor c.args.self.now h
@@ -98,6 +98,7 @@ returns-in-Err-write_ready-clause-spent g c = λ is.
       changes_are = ap (λ (s : ArchiveState). s.changes) view;
       index_is = ap (λ (s : ArchiveState). seen s.index) view;
       shelf_is = subst (λ (s : ArchiveState). HasSameShelf s.shelf c.write_ready.new.shelf) view shelf;
+      marked_is = ap (λ (s : ArchiveState). s.marked) view;
       live_is = refl;
     }
 
