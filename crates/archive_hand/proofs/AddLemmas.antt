@@ -18,13 +18,17 @@ use Rattle.pages_area.specs.Crash.{ChangesOnly}
 use Rattle.journal_entries.specs.Spelling.{spelling}
 use Rattle.journal_entries.specs.declared.entry.Entry.{Entry}
 use Rattle.journal_entries.specs.declared.entry.Entry.TheVariants.{Arrive, Delete, Planned, Format}
-use Rattle.model_archive.specs.Histories.{History, changes, end_of, is_mark}
+use Rattle.model_archive.specs.Histories.{History, changes, end_of, is_mark, is_marked}
 use Rattle.model_archive.specs.Plans.{live_plans}
 use Rattle.model_archive.proofs.HoldLemmas.{same_live}
 use Rattle.model_archive.specs.Stands.{bodies_of}
 use Rattle.model_archive.proofs.HistoryLemmas.{bodies_of-push, end_of-push, end_of-least, loadable-push, entry_loads, marked_push, unmarked_push}
 use Rattle.model_archive.proofs.OutcomeLemmas.{mark_legal}
+use Rattle.model_archive.proofs.RefusalLemmas.{cause-none, when_false}
 use Rattle.model_archive.specs.Steps.{mark_refusal}
+use Rattle.model_archive.specs.declared.refusal.Refusal.TheVariants.{HasFormat}
+use Rattle.base_types.specs.Limits.{limit_of}
+use Rattle.base_types.specs.declared.which.Which.TheVariants.{Journal}
 use Rattle.archive_hand.specs.States.{ArchiveState, StandsFor}
 use Rattle.archive_plans.specs.Shelves.{ShelfState}
 use Rattle.lists_index.specs.Indexes.{IsPreparedFor}
@@ -72,6 +76,10 @@ stands_more a b h e x body words stands next prepared more =
 -- an archive with the mark
 abbrev pub with_mark : ArchiveState → ℕ → ArchiveState
 with_mark a end = record a { end = end; live = true; length = a.length + 1; marked = true }
+
+-- nothing refuses the mark where the history has none, and there is room for it
+pub unrefused : (h : History) → is_marked h ≡ false → end_of h + 8 ≤ limit_of Journal → mark_refusal h ≡ None
+unrefused h none room = cause-none h Format (when_false (is_marked h) HasFormat none) (omega (arith, room, end_of-push h Format))
 
 pub stands_marked : (a : ArchiveState) (h : History) (end : ℕ) → StandsFor a h → mark_refusal h ≡ None → end ≡ a.end + 8 → StandsFor (with_mark a end) (h ++ Format ∷ [])
 stands_marked a h end stands none at =

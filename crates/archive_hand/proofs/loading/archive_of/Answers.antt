@@ -1,4 +1,4 @@
-use Rattle.std.proofs.Common.{ℕ, List, arith, sym, subst, subst₂}
+use Rattle.std.proofs.Common.{◌≡◌, ℕ, List, arith, sym, subst, subst₂}
 use Rattle.std.proofs.lemmas.Result.{err_from_is_err_and}
 use Rattle.pages_area.specs.Live.{AreLive}
 use Rattle.journal_gates.specs.Spelled.{Spells}
@@ -60,7 +60,7 @@ returns-clause-stands g c =
 pub returns-clause-found : goal.returns-clause-found
 returns-clause-found g c = λ tells bodies laid_out spelled.
     let all = c.in_ok-replayed.ensures.found tells bodies laid_out spelled in
-    (all.0, (stands g c all.0 all.1 all.2, all.3))
+    (all.0, (stands g c all.0 all.1 all.2 all.4, all.3))
 
 pub returns-clause-exact : goal.returns-clause-exact
 returns-clause-exact g c = λ tells bodies laid_out spelled image spells long at refused.
