@@ -10,7 +10,7 @@ use Rattle.lists_versions.specs.Refusals.{arrive_refusal, delete_refusal}
 use Rattle.lists_versions.specs.Tests.{first_of}
 use Rattle.journal_entries.specs.Spelling.{spelling}
 use Rattle.journal_entries.specs.declared.entry.Entry.{Entry}
-use Rattle.journal_entries.specs.declared.entry.Entry.TheVariants.{Arrive, Delete, Planned}
+use Rattle.journal_entries.specs.declared.entry.Entry.TheVariants.{Arrive, Delete}
 use Rattle.model_archive.specs.declared.refusal.Refusal.{Refusal}
 use Rattle.model_archive.specs.Histories.{History}
 use Rattle.model_archive.specs.Legal.{IsLegalEntry}

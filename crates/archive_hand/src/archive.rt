@@ -33,8 +33,8 @@ use archive_entries::{
 };
 use archive_plans::{Draft, PlanReport, Shelf, make_ready};
 use base_types::{DocId, Span, Time, Which};
-use journal_entries::encode_format;
-use journal_gates::{Frame, Journal};
+use journal_entries::{FORMAT_BYTES, encode_format};
+use journal_gates::{Frame, GATE_BYTES, Journal};
 use lists_index::Index;
 use lists_versions::Directory;
 use machine_model::Disk;
@@ -42,12 +42,6 @@ use model_archive::Refusal;
 use pages_sublists::{FetchError, Gathered};
 use std::alloc::Global;
 use std::marker::Model;
-
-/// The bytes of a record before its body: the gate and the length.
-const GATE_BYTES: u64 = 5;
-
-/// The bytes of the mark's body.
-const FORMAT_BYTES: u64 = 3;
 
 /// An open archive.
 #[derive(Drop)]
@@ -372,7 +366,7 @@ impl Archive {
         if self.marked {
             return Err(ChangeError::Refused(Refusal::HasFormat));
         }
-        if Which::Journal.limit() < self.journal.end() + GATE_BYTES + FORMAT_BYTES {
+        if Which::Journal.limit() < self.journal.end() + GATE_BYTES + FORMAT_BYTES as u64 {
             return Err(ChangeError::Refused(full_journal()));
         }
         self.live = false;

@@ -15,7 +15,7 @@ use archive_entries::{Declined, full_journal};
 use base_commands::Kind;
 use base_types::{Fraction, Key, Posting, Time, Which};
 use journal_entries::{Layout, Listed, Place, PlanEntry, encode_plan};
-use journal_gates::Frame;
+use journal_gates::{Frame, GATE_BYTES};
 use model_archive::{Refusal, StoredPlan};
 use pages_area::TakeError;
 use pages_sublists::Prepared;
@@ -179,7 +179,7 @@ fn spell_entry(alloc: Global, end: u64, draft: Draft, places: &[Place]) -> Resul
         places: Listed::new(places),
     };
     let body = encode_plan(alloc, &plan)?;
-    if Which::Journal.limit() < end + 5 + body.len() as u64 {
+    if Which::Journal.limit() < end + GATE_BYTES + body.len() as u64 {
         return Err(Declined::Refused(full_journal()));
     }
     let frame = Frame::new(alloc, &body)?;

@@ -28,6 +28,6 @@ pub use place::{Layout, Place};
 pub use plan::{Listed, PlanEntry};
 pub use plan_writing::encode_plan;
 pub use reading::decode;
-pub use tags::MOST_SEGMENTS;
+pub use tags::{FORMAT_BYTES, MOST_SEGMENTS};
 pub use text::{MOST_TEXT_BYTES, VersionText};
 pub use writing::{encode_arrival, encode_deletion, encode_format};

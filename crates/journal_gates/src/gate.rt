@@ -21,7 +21,7 @@ pub(crate) enum Gate {
 }
 
 /// The bytes of a gate and of the length behind it.
-pub(crate) const GATE_BYTES: u64 = 5;
+pub const GATE_BYTES: u64 = 5;
 
 // The length that stands behind a gate.
 fn spelled_count(bytes: &[u8]) -> u32

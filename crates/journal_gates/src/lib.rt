@@ -26,6 +26,7 @@ mod window;
 pub use bodies::Bodies;
 pub use error::{AppendError, JournalError};
 pub use frame::Frame;
+pub use gate::GATE_BYTES;
 pub use head::Head;
 pub use journal::Journal;
 pub use laws::{
