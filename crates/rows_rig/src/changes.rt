@@ -99,13 +99,34 @@ pub fn expect_change(
     Ok(())
 }
 
+/// Makes changes, one behind the other.
+fn expect_each(
+    alloc: Global,
+    machine: &mut MemMachine,
+    archive: &mut Archive,
+    changes: &[Change<'_>],
+) -> Result<(), RowError>
+    requires within { Reaches (disk_state machine.old).reach archive.old }
+{
+    for change in changes {
+        expect_change(alloc, machine, archive, change)?;
+    }
+    expect_memory(machine)
+}
+
+/// Makes changes of the archive of a machine's disk, which has to load.
+fn load_and_change(
+    alloc: Global,
+    machine: &mut MemMachine,
+    changes: &[Change<'_>],
+) -> Result<(), RowError> {
+    let mut archive = Archive::load(alloc, machine)?;
+    expect_each(alloc, machine, &mut archive, changes)
+}
+
 /// Makes changes of a new archive, and answers its machine.
 pub fn expect_changes(alloc: Global, changes: &[Change<'_>]) -> Result<MemMachine, RowError> {
     let mut machine = make_machine(alloc, b"", b"", &[])?;
-    let mut archive = Archive::load(alloc, &mut machine)?;
-    for change in changes {
-        expect_change(alloc, &mut machine, &mut archive, change)?;
-    }
-    expect_memory(&machine)?;
+    load_and_change(alloc, &mut machine, changes)?;
     Ok(machine)
 }

@@ -3,7 +3,7 @@ use crate::journals::{
     FLAT, FOUR_RECORDS, Plan, Segment, flat_segments, journal_of, pages_of, plan_of_v, plan_record,
 };
 use crate::rows::expect_row;
-use crate::{Row, RowError, copy_image, machine_on, read_image, run_on};
+use crate::{Row, RowError, copy_image, expect_end, machine_on, read_image};
 use machine_mem::MemMachine;
 use machine_model::Image;
 use run_script::Status;
@@ -81,6 +81,24 @@ pub fn expect_on(alloc: Global, disk: &Image, rows: &[Row<'_>]) -> Result<(), Ro
     Ok(())
 }
 
+/// Scripts have their replies, one behind the other on a new disk.
+pub fn expect_in_order(alloc: Global, rows: &[Row<'_>]) -> Result<(), RowError> {
+    disk_after_all(alloc, new_disk(alloc), rows)?;
+    Ok(())
+}
+
+/// Each of these scripts has its replies on the disk that the scripts in front of them leave on a new one.
+pub fn expect_behind(alloc: Global, front: &[Row<'_>], rows: &[Row<'_>]) -> Result<(), RowError> {
+    let disk = disk_after_all(alloc, new_disk(alloc), front)?;
+    expect_on(alloc, &disk, rows)
+}
+
+/// A script has its replies on a disk and leaves it as it was.
+pub fn expect_kept(alloc: Global, disk: &Image, row: &Row<'_>) -> Result<(), RowError> {
+    let left = disk_after(alloc, disk, row)?;
+    expect_same(0, &left, disk)
+}
+
 /// The disk after the four changes and the first plan.
 pub fn first_disk(alloc: Global) -> Result<Image, RowError> {
     disk_after_all(alloc, new_disk(alloc), &[FOUR_CHANGES, FIRST_PLAN])
@@ -106,18 +124,48 @@ pub fn flat_disk(alloc: Global) -> Result<Image, AllocError> {
     disk_with(alloc, &plan)
 }
 
-/// The run of an empty script on a disk has this status and shows nothing.
-pub fn expect_status(alloc: Global, disk: Image, wanted: Status) -> Result<(), RowError> {
+/// The run of an empty script on a disk has this status and shows nothing. In its table the disk is this row,
+/// counted from 0.
+pub fn expect_status(
+    alloc: Global,
+    disk: Image,
+    row: usize,
+    wanted: Status,
+) -> Result<(), RowError> {
     let mut machine = machine_on(alloc, b"", disk, &[])?;
-    let status = run_on(alloc, &mut machine)?;
-    if status != wanted {
-        return Err(RowError::Status { row: 0, status });
-    }
-    if !machine.shown().is_empty() {
-        let shown = Vec::from_slice(alloc, machine.shown())?;
-        return Err(RowError::Replies { row: 0, shown });
+    expect_end(alloc, &mut machine, row, wanted, b"")
+}
+
+/// A disk holds what another one holds. In its table it is this row, counted from 0.
+pub fn expect_same(row: usize, left: &Image, disk: &Image) -> Result<(), RowError> {
+    if left.journal != disk.journal || left.pages != disk.pages {
+        return Err(RowError::Changed { row });
     }
     Ok(())
+}
+
+/// Puts a byte in the place of another one.
+pub fn put_byte(area: &mut Vec<u8>, at: usize, byte: u8) -> Result<(), RowError> {
+    match area.get_mut(at) {
+        Some(there) => {
+            *there = byte;
+            Ok(())
+        }
+        None => Err(RowError::NoByte { at }),
+    }
+}
+
+/// A copy of a disk with other bytes in its Pages: where each lies, and what it is.
+pub fn disk_with_bytes(
+    alloc: Global,
+    disk: &Image,
+    bytes: &[(usize, u8)],
+) -> Result<Image, RowError> {
+    let mut changed = copy_image(alloc, disk)?;
+    for (at, byte) in bytes {
+        put_byte(&mut changed.pages, *at, *byte)?;
+    }
+    Ok(changed)
 }
 
 /// Pages hold the sublist of a segment.

@@ -53,8 +53,56 @@ pub enum RowError {
         /// Its bytes.
         left: Vec<u8>,
     },
+    /// The journal that a run left is another.
+    Left {
+        /// Which row of the table, counted from 0.
+        row: usize,
+        /// Its bytes.
+        journal: Vec<u8>,
+    },
+    /// A disk isn't as it was.
+    Changed {
+        /// Which row of the table, counted from 0.
+        row: usize,
+    },
+    /// A run that should be refused for its words touched the machine.
+    Touched {
+        /// Which row of the table, counted from 0.
+        row: usize,
+    },
+    /// The line or the exit status of how a run ended is another.
+    Line {
+        /// Which row of the table, counted from 0.
+        row: usize,
+        /// How it ended.
+        status: Status,
+    },
+    /// The exit status of a program is another.
+    Code {
+        /// Which row of the table, counted from 0.
+        row: usize,
+        /// The exit status.
+        code: u8,
+    },
+    /// The number of something that is counted is another.
+    Count {
+        /// Which row of the table, counted from 0.
+        row: usize,
+        /// The number.
+        count: u64,
+    },
+    /// The journal or Pages have no such byte.
+    NoByte {
+        /// Where it should be.
+        at: usize,
+    },
     /// The archive is spent.
     Spent,
+    /// A run has other moments.
+    Moments {
+        /// How many.
+        moments: usize,
+    },
     /// An image that a stop may leave has too few entries, or too many.
     Entries {
         /// The moment of the stop.

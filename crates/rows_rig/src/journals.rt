@@ -102,23 +102,29 @@ pub const GAP_RECORDS: &[u8] = b"TIMETRAVELTEXT\x00\x01\
     \xa5\x00\x00\x00\x0e\x01\x00\x00\x00\x01\x00\x00\x00\x00\x00\x00\x00\x1ev\
     \xa5\x00\x00\x00\x0d\x02\x00\x00\x00\x01\x00\x00\x00\x00\x00\x00\x00\x28";
 
+/// Adds the spelling of a segment.
+fn put_segment(body: &mut Vec<u8>, segment: &Segment<'_>) -> Result<(), AllocError> {
+    body.extend_from_slice(&segment.cut.to_be_bytes())?;
+    body.extend_from_slice(&segment.first.to_be_bytes())?;
+    body.extend_from_slice(&(segment.sublist.bytes.len() as u64).to_be_bytes())?;
+    body.extend_from_slice(segment.sublist.digest)
+}
+
 /// The spelling of a plan.
 fn plan_body(alloc: Global, plan: &Plan<'_>) -> Result<Vec<u8>, AllocError> {
-    let mut body = Vec::new(alloc);
-    body.push(0x03)?;
-    body.push(plan.form)?;
-    body.extend_from_slice(plan.kind)?;
-    body.extend_from_slice(&plan.over.to_be_bytes())?;
-    body.extend_from_slice(&plan.under.to_be_bytes())?;
-    body.extend_from_slice(&plan.horizon.to_be_bytes())?;
-    body.extend_from_slice(&(plan.word.len() as u64).to_be_bytes()[7..])?;
-    body.extend_from_slice(plan.word)?;
-    body.extend_from_slice(&(plan.segments.len() as u64).to_be_bytes()[4..])?;
+    let mut body = [
+        [0x03, plan.form].as_slice(),
+        plan.kind,
+        &plan.over.to_be_bytes(),
+        &plan.under.to_be_bytes(),
+        &plan.horizon.to_be_bytes(),
+        &(plan.word.len() as u64).to_be_bytes()[7..],
+        plan.word,
+        &(plan.segments.len() as u64).to_be_bytes()[4..],
+    ]
+    .concat(alloc)?;
     for segment in plan.segments {
-        body.extend_from_slice(&segment.cut.to_be_bytes())?;
-        body.extend_from_slice(&segment.first.to_be_bytes())?;
-        body.extend_from_slice(&(segment.sublist.bytes.len() as u64).to_be_bytes())?;
-        body.extend_from_slice(segment.sublist.digest)?;
+        put_segment(&mut body, segment)?;
     }
     Ok(body)
 }
@@ -126,11 +132,8 @@ fn plan_body(alloc: Global, plan: &Plan<'_>) -> Result<Vec<u8>, AllocError> {
 /// The record of a plan: an open gate, the length of the spelling in 4 bytes, and the spelling.
 pub fn plan_record(alloc: Global, plan: &Plan<'_>) -> Result<Vec<u8>, AllocError> {
     let body = plan_body(alloc, plan)?;
-    let mut record = Vec::new(alloc);
-    record.push(0xa5)?;
-    record.extend_from_slice(&(body.len() as u64).to_be_bytes()[4..])?;
-    record.extend_from_slice(&body)?;
-    Ok(record)
+    let length = &(body.len() as u64).to_be_bytes()[4..];
+    [b"\xa5".as_slice(), length, &body].concat(alloc)
 }
 
 /// A plan of the word `v` with the factor 1, in blocks.

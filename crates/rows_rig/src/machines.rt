@@ -141,12 +141,18 @@ pub fn load_image(alloc: Global, image: Image) -> Result<(Archive, MemMachine), 
     Ok((archive, machine))
 }
 
+/// The machine behind the load of a disk with this image, and the number of the archive's entries.
+pub fn load_entries(alloc: Global, image: Image) -> Result<(MemMachine, u64), RowError> {
+    let (archive, machine) = load_image(alloc, image)?;
+    Ok((machine, archive.length()))
+}
+
 /// The number of entries of the archive with this journal, which has to load.
-pub fn count_on(alloc: Global, journal: &[u8]) -> Result<u64, RowError> {
+pub(crate) fn count_on(alloc: Global, journal: &[u8]) -> Result<u64, RowError> {
     let image = Image {
         journal: Vec::from_slice(alloc, journal)?,
         pages: Vec::new(alloc),
     };
-    let (archive, _) = load_image(alloc, image)?;
-    Ok(archive.length())
+    let (_, entries) = load_entries(alloc, image)?;
+    Ok(entries)
 }

@@ -3,16 +3,55 @@ ghost use Rattle.std.specs.Prelude.{IfOk};
 ghost use Rattle.machine_mem.specs.Meaning.{after_calls};
 ghost use Rattle.machine_mem.specs.Picks.{IsPicked};
 
-use crate::{RowError, load_image};
+use crate::{RowError, load_entries};
 use machine_mem::{Fill, MemMachine, Pick, Picked, Tail};
 use machine_model::Image;
 use std::alloc::Global;
-
-/// The lengths above the least that images are picked with, in bytes.
-pub const EXTRAS: [u64; 3] = [0, 7, u64::MAX];
+use std::ops::Range;
 
 /// What stands in the bytes that a stop leaves open.
-pub const FILLS: [Fill; 3] = [Fill::Written, Fill::Byte(0), Fill::Byte(0xa5)];
+const FILLS: [Fill; 3] = [Fill::Written, Fill::Byte(0), Fill::Byte(0xa5)];
+
+/// The images that are picked of a moment: of the least length, of 7 bytes more and of the greatest length, with
+/// each filling in `FILLS`.
+pub const TAILS: [Tail; 9] = [
+    Tail {
+        extra: 0,
+        fill: Fill::Written,
+    },
+    Tail {
+        extra: 7,
+        fill: Fill::Written,
+    },
+    Tail {
+        extra: u64::MAX,
+        fill: Fill::Written,
+    },
+    Tail {
+        extra: 0,
+        fill: Fill::Byte(0),
+    },
+    Tail {
+        extra: 7,
+        fill: Fill::Byte(0),
+    },
+    Tail {
+        extra: u64::MAX,
+        fill: Fill::Byte(0),
+    },
+    Tail {
+        extra: 0,
+        fill: Fill::Byte(0xa5),
+    },
+    Tail {
+        extra: 7,
+        fill: Fill::Byte(0xa5),
+    },
+    Tail {
+        extra: u64::MAX,
+        fill: Fill::Byte(0xa5),
+    },
+];
 
 /// An image that a stop may leave at a moment.
 pub fn pick_image(
@@ -58,12 +97,11 @@ pub fn pick_entries(
     tail: Tail,
 ) -> Result<u64, RowError> {
     let picked = pick_image(alloc, machine, moment, tail)?;
-    let (archive, _) = load_image(alloc, picked.image)?;
-    Ok(archive.length())
+    let (_, entries) = load_entries(alloc, picked.image)?;
+    Ok(entries)
 }
 
-/// Each image that a stop may leave at a moment has at least and at most so many entries: of each
-/// length in `EXTRAS`, with each filling in `FILLS`.
+/// Each image in `TAILS` that a stop may leave at a moment has at least and at most so many entries.
 pub fn expect_entries(
     alloc: Global,
     machine: &MemMachine,
@@ -71,18 +109,47 @@ pub fn expect_entries(
     least: u64,
     most: u64,
 ) -> Result<(), RowError> {
-    for fill in FILLS {
-        for extra in EXTRAS {
-            let tail = Tail { extra, fill };
-            let entries = pick_entries(alloc, machine, moment, tail)?;
-            if entries < least || most < entries {
-                return Err(RowError::Entries {
-                    moment,
-                    tail,
-                    entries,
-                });
-            }
+    for tail in &TAILS {
+        let entries = pick_entries(alloc, machine, moment, *tail)?;
+        if entries < least || most < entries {
+            return Err(RowError::Entries {
+                moment,
+                tail: *tail,
+                entries,
+            });
         }
+    }
+    Ok(())
+}
+
+/// The same of each of these moments.
+fn expect_entries_in(
+    alloc: Global,
+    machine: &MemMachine,
+    (moments, least, most): &(Range<usize>, u64, u64),
+) -> Result<(), RowError> {
+    for moment in moments.start..moments.end {
+        expect_entries(alloc, machine, moment, *least, *most)?;
+    }
+    Ok(())
+}
+
+/// The images that a stop may leave have at least and at most so many entries. The rows are all moments of the
+/// run, in order.
+pub fn expect_moments(
+    alloc: Global,
+    machine: &MemMachine,
+    rows: &[(Range<usize>, u64, u64)],
+) -> Result<(), RowError> {
+    let mut moments = 0;
+    for row in rows {
+        expect_entries_in(alloc, machine, row)?;
+        moments = row.0.end;
+    }
+    if moments != machine.moments() {
+        return Err(RowError::Moments {
+            moments: machine.moments(),
+        });
     }
     Ok(())
 }

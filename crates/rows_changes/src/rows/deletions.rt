@@ -1,25 +1,31 @@
 //! Deletions, by the calls of an open archive.
 use base_types::Time;
 use model_archive::Refusal;
-use rows_rig::{expect_changes, made, read_journal, refused, three_changes};
+use rows_rig::{RowError, expect_changes, made, read_journal, refused, three_changes};
+
+/// The journal that the three changes make.
+const THREE_CHANGES: &[u8] = b"TIMETRAVELTEXT\x00\x01\
+    \xa5\x00\x00\x00\x10\x01\x00\x00\x00\x07\x00\x00\x00\x00\x00\x00\x00\x0ared\
+    \xa5\x00\x00\x00\x0d\x02\x00\x00\x00\x07\x00\x00\x00\x00\x00\x00\x00\x14\
+    \xa5\x00\x00\x00\x11\x01\x00\x00\x00\x07\x00\x00\x00\x00\x00\x00\x00\x1eblue\
+    \x00";
 
 #[test]
-fn a_deleted_document_may_come_again(rt: HostRuntime) {
+fn a_deleted_document_may_come_again(rt: HostRuntime) -> Result<(), RowError> {
     let alloc = rt.alloc();
-    let mut machine = expect_changes(alloc, &three_changes()).expect(&rt, "the changes");
-    let journal = read_journal(alloc, &mut machine).expect(&rt, "a journal");
-    let want = b"TIMETRAVELTEXT\x00\x01\
-        \xa5\x00\x00\x00\x10\x01\x00\x00\x00\x07\x00\x00\x00\x00\x00\x00\x00\x0ared\
-        \xa5\x00\x00\x00\x0d\x02\x00\x00\x00\x07\x00\x00\x00\x00\x00\x00\x00\x14\
-        \xa5\x00\x00\x00\x11\x01\x00\x00\x00\x07\x00\x00\x00\x00\x00\x00\x00\x1eblue\
-        \x00";
-    assert_eq!(rt; journal.as_slice(), want.as_slice());
+    let mut machine = expect_changes(alloc, &three_changes())?;
+    let journal = read_journal(alloc, &mut machine)?;
+    if journal.as_slice() != THREE_CHANGES {
+        return Err(RowError::Left { row: 0, journal });
+    }
+    Ok(())
 }
 
 #[test]
-fn deletions_are_refused_by_the_first_cause(rt: HostRuntime) {
-    let ten = Time::new(10).expect(&rt, "a time");
-    let twenty = Time::new(20).expect(&rt, "a time");
+fn deletions_are_refused_by_the_first_cause(rt: HostRuntime) -> Result<(), RowError> {
+    let (Some(ten), Some(twenty)) = (Time::new(10), Time::new(20)) else {
+        return Err(RowError::NoTime);
+    };
     let changes = [
         refused(7, 10, None, Refusal::NoDocument),
         made(7, 10, Some(b"red"), 1),
@@ -34,5 +40,6 @@ fn deletions_are_refused_by_the_first_cause(rt: HostRuntime) {
         refused(7, 19, Some(b"red"), Refusal::TimeBack { last: twenty }),
         made(8, 20, Some(b"red"), 3),
     ];
-    expect_changes(rt.alloc(), &changes).expect(&rt, "the changes");
+    expect_changes(rt.alloc(), &changes)?;
+    Ok(())
 }

@@ -1,9 +1,8 @@
 //! Each device call of a run failing once, in turn.
-use machine_mem::{CallKind, Fault};
-use rows_rig::{FIRST_JOURNAL, expect_shown, make_machine, run_on};
+use machine_mem::{CallKind, Fault, MemMachine};
+use rows_rig::{FIRST_JOURNAL, RowError, expect_replies, expect_shown, make_machine, run_on};
 use run_script::Status;
 use std::alloc::Global;
-use std::process::Abort;
 
 /// Three arrivals.
 const SCRIPT: &[u8] = b"arrive 7 20 4\nblue\narrive 8 20 0\n\narrive 7 30 9\nred green\n";
@@ -16,6 +15,16 @@ struct Start<'a> {
     replies: &'a [u8],
 }
 
+/// The calls of a kind in a whole run, of which each fails in turn.
+#[derive(Clone, Copy, Debug)]
+struct Calls {
+    call: CallKind,
+    /// How many bytes of a failing write land nonetheless.
+    landed: u64,
+    /// How many calls there are: so many at least, and at most.
+    count: (u64, u64),
+}
+
 /// How a run ends where a call of this kind fails.
 fn status_of(call: CallKind) -> Status {
     match call {
@@ -25,86 +34,112 @@ fn status_of(call: CallKind) -> Status {
     }
 }
 
+/// What a run with a fault that ended so has shown, and whether it came to its end.
+fn has_ended(
+    alloc: Global,
+    machine: &MemMachine,
+    start: &Start<'_>,
+    fault: Fault,
+    status: Status,
+) -> Result<bool, RowError> {
+    let row = fault.nth as usize;
+    if status == Status::Done {
+        expect_replies(alloc, machine, row, start.replies)?;
+        return Ok(true);
+    }
+    if status != status_of(fault.call) {
+        return Err(RowError::Status { row, status });
+    }
+    if !start.replies.starts_with(machine.shown()) {
+        let shown = Vec::from_slice(alloc, machine.shown())?;
+        return Err(RowError::Replies { row, shown });
+    }
+    Ok(false)
+}
+
 /// Runs the script with a fault, and answers whether it came to its end. It shows a front of the
 /// replies, and each image at each moment has the entries of the replies shown then, or one more.
-fn ends_despite(rt: &impl Abort, alloc: Global, start: &Start<'_>, fault: Fault) -> bool {
-    let mut machine = make_machine(alloc, SCRIPT, start.journal, &[fault]).expect(rt, "a machine");
-    let status = run_on(alloc, &mut machine).expect(rt, "a run");
-    assert!(rt; start.replies.starts_with(machine.shown()), "{fault:?}");
-    expect_shown(alloc, &machine, start.entries).expect(rt, "the entries");
-    if status == Status::Done {
-        assert_eq!(rt; machine.shown(), start.replies, "{fault:?}");
-        return true;
-    }
-    assert_eq!(rt; status, status_of(fault.call), "{fault:?}");
-    false
+fn ends_despite(alloc: Global, start: &Start<'_>, fault: Fault) -> Result<bool, RowError> {
+    let mut machine = make_machine(alloc, SCRIPT, start.journal, &[fault])?;
+    let status = run_on(alloc, &mut machine)?;
+    expect_shown(alloc, &machine, start.entries)?;
+    has_ended(alloc, &machine, start, fault, status)
 }
 
-/// Lets each call of a kind fail in turn, and answers how many there are in the whole run.
-fn fail_each(
-    rt: &impl Abort,
-    alloc: Global,
-    start: &Start<'_>,
-    call: CallKind,
-    landed: u64,
-) -> u64 {
+/// Lets each of these calls fail in turn, and answers how many there are in the whole run.
+fn fail_each(alloc: Global, start: &Start<'_>, calls: &Calls) -> Result<u64, RowError> {
     for nth in 1..100 {
-        if ends_despite(rt, alloc, start, Fault { call, nth, landed }) {
-            return nth - 1;
+        let fault = Fault {
+            call: calls.call,
+            nth,
+            landed: calls.landed,
+        };
+        if ends_despite(alloc, start, fault)? {
+            return Ok(nth - 1);
         }
     }
-    100
+    Ok(100)
 }
 
-/// Lets each call of each kind fail in turn. In the whole run there are at least so
-/// many reads, and exactly so many writes and syncs.
-fn fail_all(
-    rt: &impl Abort,
-    alloc: Global,
-    start: &Start<'_>,
-    reads: u64,
-    writes: u64,
-    syncs: u64,
-) {
-    // one pull gives the script, and one more its end
-    for (call, least) in [
-        (CallKind::Length, 1),
-        (CallKind::Read, reads),
-        (CallKind::Pull, 2),
-    ] {
-        let calls = fail_each(rt, alloc, start, call, 0);
-        assert!(rt; least <= calls && calls < 100, "{calls} of {call:?}");
+/// Lets each of these calls fail in turn. The whole run has as many as is said.
+fn fail_all(alloc: Global, start: &Start<'_>, rows: &[Calls]) -> Result<(), RowError> {
+    for (row, calls) in rows.iter().enumerate() {
+        let count = fail_each(alloc, start, calls)?;
+        if count < calls.count.0 || calls.count.1 < count {
+            return Err(RowError::Count { row, count });
+        }
     }
-    for (call, landed, want) in [
-        (CallKind::Write, 0, writes),
-        (CallKind::Write, 1, writes),
-        (CallKind::Write, u64::MAX, writes),
-        (CallKind::Sync, 0, syncs),
-        (CallKind::Push, 0, 3),
-    ] {
-        let calls = fail_each(rt, alloc, start, call, landed);
-        assert_eq!(rt; calls, want, "{call:?}");
+    Ok(())
+}
+
+/// Calls of a kind.
+fn calls_of(call: CallKind, landed: u64, least: u64, most: u64) -> Calls {
+    Calls {
+        call,
+        landed,
+        count: (least, most),
     }
 }
 
-// A new journal takes a write and two syncs, and each arrival two of each.
+// A new journal takes a write and two syncs, and each arrival two of each. One pull gives the script, and one more
+// its end.
 #[test]
-fn each_call_fails_once_on_a_new_disk(rt: HostRuntime) {
+fn each_call_fails_once_on_a_new_disk(rt: HostRuntime) -> Result<(), RowError> {
     let start = Start {
         journal: b"",
         entries: 0,
         replies: b"ok 1\nok 2\nok 3\n",
     };
-    fail_all(&rt, rt.alloc(), &start, 0, 7, 8);
+    let rows = [
+        calls_of(CallKind::Length, 0, 1, 99),
+        calls_of(CallKind::Read, 0, 0, 99),
+        calls_of(CallKind::Pull, 0, 2, 99),
+        calls_of(CallKind::Write, 0, 7, 7),
+        calls_of(CallKind::Write, 1, 7, 7),
+        calls_of(CallKind::Write, u64::MAX, 7, 7),
+        calls_of(CallKind::Sync, 0, 8, 8),
+        calls_of(CallKind::Push, 0, 3, 3),
+    ];
+    fail_all(rt.alloc(), &start, &rows)
 }
 
 // An older journal is synced and read.
 #[test]
-fn each_call_fails_once_on_a_disk_with_an_entry(rt: HostRuntime) {
+fn each_call_fails_once_on_a_disk_with_an_entry(rt: HostRuntime) -> Result<(), RowError> {
     let start = Start {
         journal: FIRST_JOURNAL,
         entries: 1,
         replies: b"ok 2\nok 3\nok 4\n",
     };
-    fail_all(&rt, rt.alloc(), &start, 1, 6, 7);
+    let rows = [
+        calls_of(CallKind::Length, 0, 1, 99),
+        calls_of(CallKind::Read, 0, 1, 99),
+        calls_of(CallKind::Pull, 0, 2, 99),
+        calls_of(CallKind::Write, 0, 6, 6),
+        calls_of(CallKind::Write, 1, 6, 6),
+        calls_of(CallKind::Write, u64::MAX, 6, 6),
+        calls_of(CallKind::Sync, 0, 7, 7),
+        calls_of(CallKind::Push, 0, 3, 3),
+    ];
+    fail_all(rt.alloc(), &start, &rows)
 }

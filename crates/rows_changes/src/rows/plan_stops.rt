@@ -1,14 +1,13 @@
 //! What a stop may leave of a run that stores plans: after each device call, and within the load that
 //! follows.
-use machine_mem::{MemMachine, Tail};
+use machine_mem::{Fill, MemMachine, Tail};
 use machine_model::Image;
 use rows_rig::{
-    EXTRAS, FILLS, FOUR_CHANGES, Row, disk_after, expect_entries, load_image, machine_after,
-    machine_on, new_disk, pick_image, run_on, whole_images,
+    FIRST_PLAN, FOUR_CHANGES, Row, RowError, TAILS, disk_after, expect_moments, load_entries,
+    machine_after, machine_on, new_disk, pick_image, run_on, whole_images,
 };
 use run_script::Status;
 use std::alloc::Global;
-use std::process::Abort;
 
 /// Ten changes, three of them plans, and questions among them.
 const MIXED: Row<'static> = Row {
@@ -42,21 +41,35 @@ const ANSWERS: [&[u8]; 11] = [
     b"hit 1 1\nend 1 read 1\nhit 1 1\nhit 2 1\nend 2 read 2\nhit 3 1\nend 1 read 1\nhit 4 1\nend 1 read 1\nsegment 10 20 1\nsegment 20 30 2\nsegment 30 40 1\nsegment 40 60 1\nsegment 60 70 0\nnode 10 0\nnode 20 1\nnode 30 3\nnode 40 4\nnode 60 5\nnode 70 5\nend 5 space 5\nok 11\nplan 12 segments 6 space 6 full 4 horizon 100\nhit 1 1\nhit 2 1\nend 2 read 2\n",
 ];
 
-/// How many of the changes a disk has: its run answers as the history of so many.
-fn changes_on(rt: &impl Abort, alloc: Global, disk: Image) -> u64 {
-    let mut machine = machine_on(alloc, QUESTIONS, disk, &[]).expect(rt, "a machine");
-    assert_eq!(rt;
-        run_on(alloc, &mut machine).expect(rt, "a run"),
-        Status::Done
-    );
+/// How many changes the history has that answers so, or none where no history of the script does.
+fn changes_by(answers: &[u8]) -> Option<u64> {
     let mut changes = 0u64;
-    for answers in ANSWERS {
-        if machine.shown() == answers {
-            return changes;
+    for wanted in &ANSWERS {
+        if answers == *wanted {
+            return Some(changes);
         }
         changes = changes.saturating_add(1);
     }
-    panic!(rt; "no history of the script answers so")
+    None
+}
+
+/// How many of the changes a disk has: its run answers as the history of so many.
+fn changes_on(alloc: Global, disk: Image) -> Result<u64, RowError> {
+    let mut machine = machine_on(alloc, QUESTIONS, disk, &[])?;
+    count_changes(alloc, &mut machine)
+}
+
+/// The same of the disk of a machine with these questions.
+fn count_changes(alloc: Global, machine: &mut MemMachine) -> Result<u64, RowError> {
+    let status = run_on(alloc, machine)?;
+    if status != Status::Done {
+        return Err(RowError::Status { row: 0, status });
+    }
+    let Some(changes) = changes_by(machine.shown()) else {
+        let shown = Vec::from_slice(alloc, machine.shown())?;
+        return Err(RowError::Replies { row: 0, shown });
+    };
+    Ok(changes)
 }
 
 /// How many changes are acknowledged by what is shown: each by a whole line that tells the number of entries.
@@ -76,102 +89,114 @@ fn acknowledged(bytes: &[u8]) -> u64 {
     changes
 }
 
-/// The images that a stop may leave at a moment of the script's run, and how many changes are
-/// acknowledged then.
-fn images_at(
-    rt: &impl Abort,
+/// How many changes are acknowledged at a moment of the script's run.
+fn acknowledged_at(alloc: Global, machine: &MemMachine, moment: usize) -> Result<u64, RowError> {
+    let tail = Tail {
+        extra: 0,
+        fill: Fill::Written,
+    };
+    let picked = pick_image(alloc, machine, moment, tail)?;
+    let shown = picked.shown.min(machine.shown().len());
+    Ok(acknowledged(&machine.shown()[..shown]))
+}
+
+/// Each image that a stop may leave at this moment of the script's run has so many changes, or one more, and at
+/// most all ten.
+fn expect_changes_at(
     alloc: Global,
     machine: &MemMachine,
     moment: usize,
-) -> (Vec<Image>, u64) {
-    let mut images = Vec::new(alloc);
-    let mut least = 0;
-    for fill in FILLS {
-        for extra in EXTRAS {
-            let picked = pick_image(alloc, machine, moment, Tail { extra, fill }).expect(
-                rt, "an image",
-            );
-            assert!(rt; picked.shown <= machine.shown().len());
-            least = acknowledged(&machine.shown()[..picked.shown]);
-            images.push(picked.image).expect(rt, "memory");
+    least: u64,
+) -> Result<(), RowError> {
+    let most = least.saturating_add(1).min(10);
+    for tail in &TAILS {
+        let picked = pick_image(alloc, machine, moment, *tail)?;
+        let entries = changes_on(alloc, picked.image)?;
+        if entries < least || most < entries {
+            return Err(RowError::Entries {
+                moment,
+                tail: *tail,
+                entries,
+            });
         }
     }
-    (images, least)
+    Ok(())
 }
 
 /// Each image that a stop may leave of a script's run has the changes that were acknowledged, or one more. The
-/// run has so many moments.
-fn expect_acknowledged(rt: &impl Abort, alloc: Global, row: &Row<'_>, moments: usize) {
-    let machine = machine_after(alloc, new_disk(alloc), row).expect(rt, "the replies");
-    assert_eq!(rt; machine.moments(), moments);
-    let mut least = 0;
-    for moment in 0..moments {
-        let (images, shown) = images_at(rt, alloc, &machine, moment);
-        least = shown;
-        let most = if least < 10 {
-            least.saturating_add(1)
-        } else {
-            10
-        };
-        for image in images {
-            let changes = changes_on(rt, alloc, image);
-            assert!(rt;
-                least <= changes && changes <= most,
-                "{changes} after {least} at {moment}"
-            );
-        }
+/// run has so many moments, and at the last one all ten changes are acknowledged.
+fn expect_acknowledged(
+    alloc: Global,
+    machine: &MemMachine,
+    moments: usize,
+) -> Result<(), RowError> {
+    if machine.moments() != moments {
+        return Err(RowError::Moments {
+            moments: machine.moments(),
+        });
     }
-    assert_eq!(rt; least, 10);
+    let mut count = 0;
+    for moment in 0..moments {
+        count = acknowledged_at(alloc, machine, moment)?;
+        expect_changes_at(alloc, machine, moment, count)?;
+    }
+    if count != 10 {
+        return Err(RowError::Count { row: 0, count });
+    }
+    Ok(())
 }
 
 // The load makes three calls, and each command shows its reply. A change of a document makes four calls more; a
 // plan one for each sublist that has bytes, a sync, and the same four.
 #[test]
-fn a_stop_leaves_what_was_acknowledged_or_one_change_more(rt: HostRuntime) {
-    expect_acknowledged(&rt, rt.alloc(), &MIXED, 76);
+fn a_stop_leaves_what_was_acknowledged_or_one_change_more(rt: HostRuntime) -> Result<(), RowError> {
+    let alloc = rt.alloc();
+    let machine = machine_after(alloc, new_disk(alloc), &MIXED)?;
+    expect_acknowledged(alloc, &machine, 76)
 }
 
 // There are five questions more.
 #[test]
-fn a_stop_leaves_no_less_where_pages_are_kept(rt: HostRuntime) {
-    expect_acknowledged(&rt, rt.alloc(), &WARMED, 81);
+fn a_stop_leaves_no_less_where_pages_are_kept(rt: HostRuntime) -> Result<(), RowError> {
+    let alloc = rt.alloc();
+    let machine = machine_after(alloc, new_disk(alloc), &WARMED)?;
+    expect_acknowledged(alloc, &machine, 81)
+}
+
+/// Each image that a stop may leave of the load of this disk has so many changes as the disk, and answers as they
+/// do.
+fn expect_same(alloc: Global, image: Image) -> Result<(), RowError> {
+    let (load, changes) = load_entries(alloc, image)?;
+    for (row, image) in whole_images(alloc, &load)?.into_iter().enumerate() {
+        let count = changes_on(alloc, image)?;
+        if count != changes {
+            return Err(RowError::Count { row, count });
+        }
+    }
+    Ok(())
 }
 
 #[test]
-fn a_stop_inside_the_load_that_follows_leaves_the_same_changes(rt: HostRuntime) {
+fn a_stop_inside_the_load_that_follows_leaves_the_same_changes(
+    rt: HostRuntime,
+) -> Result<(), RowError> {
     let alloc = rt.alloc();
-    let machine = machine_after(alloc, new_disk(alloc), &MIXED).expect(&rt, "the replies");
-    for image in whole_images(alloc, &machine).expect(&rt, "the images") {
-        let (archive, second) = load_image(alloc, image).expect(&rt, "an archive");
-        expect_same(&rt, alloc, &second, archive.length());
+    let machine = machine_after(alloc, new_disk(alloc), &MIXED)?;
+    for image in whole_images(alloc, &machine)? {
+        expect_same(alloc, image)?;
     }
-}
-
-/// Each image that a stop may leave of this load has so many changes, and answers as they do.
-fn expect_same(rt: &impl Abort, alloc: Global, machine: &MemMachine, changes: u64) {
-    for image in whole_images(alloc, machine).expect(rt, "the images") {
-        assert_eq!(rt; changes_on(rt, alloc, image), changes);
-    }
+    Ok(())
 }
 
 // The load syncs. The three sublists are written and synced, and then the entry is appended: it is
 // written behind the closed gate and synced, and the gate is opened and synced. At last the reply is shown.
 #[test]
-fn an_entry_is_there_when_its_gate_is_open_and_its_sublists_stay(rt: HostRuntime) {
+fn an_entry_is_there_when_its_gate_is_open_and_its_sublists_stay(
+    rt: HostRuntime,
+) -> Result<(), RowError> {
     let alloc = rt.alloc();
-    let disk = disk_after(alloc, &new_disk(alloc), &FOUR_CHANGES).expect(&rt, "the replies");
-    let mut machine = machine_on(alloc, b"plan v guarantee 1/1\n", disk, &[]).expect(
-        &rt,
-        "a machine",
-    );
-    assert_eq!(rt;
-        run_on(alloc, &mut machine).expect(&rt, "a run"),
-        Status::Done
-    );
-    assert_eq!(rt; machine.moments(), 11);
-    for (moments, least, most) in [(0..8, 4, 4), (8..9, 4, 5), (9..11, 5, 5)] {
-        for moment in moments {
-            expect_entries(alloc, &machine, moment, least, most).expect(&rt, "the entries");
-        }
-    }
+    let disk = disk_after(alloc, &new_disk(alloc), &FOUR_CHANGES)?;
+    let machine = machine_after(alloc, disk, &FIRST_PLAN)?;
+    let rows = [(0..8, 4, 4), (8..9, 4, 5), (9..11, 5, 5)];
+    expect_moments(alloc, &machine, &rows)
 }

@@ -1,11 +1,15 @@
 //! The program's exit statuses and the lines that it prints of them.
 use pages_sublists::{Damage, Why};
+use rows_rig::{RowError, expect_line};
 use run_script::Status;
 
 #[test]
-fn each_status_has_its_code_and_its_line(rt: HostRuntime) {
-    let alloc = rt.alloc();
-    for (status, code, line) in [
+fn each_status_has_its_code_and_its_line(rt: HostRuntime) -> Result<(), RowError> {
+    let bare = Damage {
+        page: 7,
+        why: Why::Bare,
+    };
+    let rows = [
         (Status::Done, 0, "tt_archive: done"),
         (
             Status::Usage,
@@ -26,10 +30,7 @@ fn each_status_has_its_code_and_its_line(rt: HostRuntime) {
             "tt_archive: script fault at byte 20",
         ),
         (
-            Status::Damaged(Damage {
-                page: 7,
-                why: Why::Bare,
-            }),
+            Status::Damaged(bare),
             8,
             "tt_archive: damaged sublist at page 7: bare",
         ),
@@ -44,9 +45,9 @@ fn each_status_has_its_code_and_its_line(rt: HostRuntime) {
             "tt_archive: the archive has 7 entries",
         ),
         (Status::Memory, 12, "tt_archive: no memory"),
-    ] {
-        let text = format!(in alloc; "{status}").expect(&rt, "memory");
-        assert_eq!(rt; text.as_str(), line);
-        assert_eq!(rt; status.code(), code, "{line}");
+    ];
+    for (row, (status, code, line)) in rows.iter().enumerate() {
+        expect_line(rt.alloc(), row, *status, *code, line)?;
     }
+    Ok(())
 }

@@ -1,183 +1,230 @@
 //! What a stop may leave: after each device call of a run, and where a call of it fails.
 use machine_mem::{CallKind, Fault, Fill, MemMachine, Picked, Tail};
 use rows_rig::{
-    EXTRAS, FILLS, FIRST_SCRIPT, MIXED_ENDS, MIXED_JOURNAL, MIXED_REPLIES, MIXED_SCRIPT,
-    expect_entries, expect_shown, load_image, make_machine, pick_entries, pick_image, run_on,
+    FIRST_SCRIPT, MIXED_ENDS, MIXED_JOURNAL, MIXED_REPLIES, MIXED_SCRIPT, Row, RowError, TAILS,
+    expect_end, expect_entries, expect_moments, expect_shown, load_entries, machine_after,
+    make_machine, many_arrivals, new_disk, pick_entries, pick_image,
 };
 use run_script::Status;
 use std::alloc::Global;
-use std::process::Abort;
 
-/// The machine on which a script ran to its end, on a new disk.
-fn machine_behind(rt: &impl Abort, alloc: Global, script: &[u8]) -> MemMachine {
-    let mut machine = make_machine(alloc, script, b"", &[]).expect(rt, "a machine");
-    assert_eq!(rt;
-        run_on(alloc, &mut machine).expect(rt, "a run"),
-        Status::Done
-    );
-    machine
-}
-
-/// A stop at this moment that leaves all the bytes that are open, filled like this, leaves so many entries.
-fn expect_filled(
-    rt: &impl Abort,
-    alloc: Global,
-    machine: &MemMachine,
-    moment: usize,
-    fill: Fill,
-    want: u64,
-) {
-    let tail = Tail {
-        extra: u64::MAX,
-        fill,
-    };
-    let entries = pick_entries(alloc, machine, moment, tail).expect(rt, "the entries");
-    assert_eq!(rt; entries, want, "{fill:?} at {moment}");
-}
+/// One arrival.
+const FIRST: Row<'static> = Row {
+    script: FIRST_SCRIPT,
+    replies: b"ok 1\n",
+};
 
 // The run syncs the disk, writes a new journal and syncs it, and then appends the record: it writes
 // the record behind the closed gate, syncs, opens the gate and syncs. At last it shows the reply.
 #[test]
-fn a_stop_in_the_first_script_leaves_none_or_its_one_entry(rt: HostRuntime) {
+fn a_stop_in_the_first_script_leaves_none_or_its_one_entry(
+    rt: HostRuntime,
+) -> Result<(), RowError> {
     let alloc = rt.alloc();
-    let machine = machine_behind(&rt, alloc, FIRST_SCRIPT);
-    assert_eq!(rt; machine.moments(), 9);
-    for (moments, least, most) in [
+    let machine = machine_after(alloc, new_disk(alloc), &FIRST)?;
+    let rows = [
         (0..6, 0, 0),
         // the gate is written, and not yet synced
         (6..7, 0, 1),
         (7..9, 1, 1),
-    ] {
-        for moment in moments {
-            expect_entries(alloc, &machine, moment, least, most).expect(&rt, "the entries");
-        }
+    ];
+    expect_moments(alloc, &machine, &rows)
+}
+
+/// Arrivals and deletions.
+const MIXED: Row<'static> = Row {
+    script: MIXED_SCRIPT,
+    replies: MIXED_REPLIES,
+};
+
+/// The machine behind a script, whose run has so many moments.
+fn machine_behind(alloc: Global, row: &Row<'_>, moments: usize) -> Result<MemMachine, RowError> {
+    let machine = machine_after(alloc, new_disk(alloc), row)?;
+    if machine.moments() != moments {
+        return Err(RowError::Moments {
+            moments: machine.moments(),
+        });
     }
+    Ok(machine)
 }
 
+// There are three calls at the load, and four and a push for each command.
 #[test]
-fn a_stop_among_arrivals_and_deletions_leaves_what_was_acknowledged_or_one_more(rt: HostRuntime) {
+fn a_stop_among_arrivals_and_deletions_leaves_what_was_acknowledged_or_one_more(
+    rt: HostRuntime,
+) -> Result<(), RowError> {
     let alloc = rt.alloc();
-    let machine = machine_behind(&rt, alloc, MIXED_SCRIPT);
-    assert_eq!(rt; machine.shown(), MIXED_REPLIES);
-    // three calls at the load, and four and a push for each command
-    assert_eq!(rt; machine.moments(), 29);
-    expect_shown(alloc, &machine, 0).expect(&rt, "the entries");
+    let machine = machine_behind(alloc, &MIXED, 29)?;
+    expect_shown(alloc, &machine, 0)
 }
 
-/// A script of so many arrivals of one document, a second apart.
-fn many_arrivals(rt: &impl Abort, alloc: Global, count: u64) -> Vec<u8> {
-    let mut script = Vec::new(alloc);
-    for at in 0..count {
-        let item = format!(in alloc; "arrive 7 {at} 1\nx\n").expect(rt, "memory");
-        script
-            .extend_from_slice(item.as_bytes())
-            .expect(rt, "memory");
+/// A stop at this moment that leaves all the bytes that are open, filled like this, leaves so many entries.
+fn expect_filled(
+    alloc: Global,
+    machine: &MemMachine,
+    moment: usize,
+    fill: Fill,
+    wanted: u64,
+) -> Result<(), RowError> {
+    let tail = Tail {
+        extra: u64::MAX,
+        fill,
+    };
+    let entries = pick_entries(alloc, machine, moment, tail)?;
+    if entries != wanted {
+        return Err(RowError::Entries {
+            moment,
+            tail,
+            entries,
+        });
     }
-    script
+    Ok(())
 }
 
-// Behind the load's three calls each arrival has five. Of the third, which writes the open gate, all
-// bytes may be left, or none.
+/// The machine behind 4,096 arrivals. Behind the load's three calls each has five.
+fn machine_behind_4096(alloc: Global) -> Result<MemMachine, RowError> {
+    let (script, replies) = many_arrivals(alloc, 4096, b"x")?;
+    let row = Row {
+        script: &script,
+        replies: &replies,
+    };
+    machine_behind(alloc, &row, 20_484)
+}
+
+// Of an arrival's third call, which writes the open gate, all bytes may be left, or none.
 #[test]
-fn a_stop_among_4096_arrivals_leaves_what_was_acknowledged_or_one_more(rt: HostRuntime) {
+fn a_stop_among_4096_arrivals_leaves_what_was_acknowledged_or_one_more(
+    rt: HostRuntime,
+) -> Result<(), RowError> {
     let alloc = rt.alloc();
-    let script = many_arrivals(&rt, alloc, 4096);
-    let machine = machine_behind(&rt, alloc, &script);
-    assert_eq!(rt; machine.moments(), 20_484);
-    for (moment, fill, want) in [
+    let machine = machine_behind_4096(alloc)?;
+    let rows = [
         (3, Fill::Written, 0),
         (10_243, Fill::Written, 2048),
         (10_246, Fill::Written, 2049),
         (10_246, Fill::Byte(0), 2048),
         (20_483, Fill::Byte(0), 4096),
-    ] {
-        expect_filled(&rt, alloc, &machine, moment, fill, want);
+    ];
+    for (moment, fill, wanted) in &rows {
+        expect_filled(alloc, &machine, *moment, *fill, *wanted)?;
     }
+    Ok(())
 }
 
-/// The archive of an image that the mixed script may leave: its journal spells as many of the
-/// script's entries as it has. A stop at any moment inside its load leaves the same history.
-fn expect_same_after_stops(rt: &impl Abort, alloc: Global, picked: Picked) {
-    let journal = Vec::from_slice(alloc, &picked.image.journal).expect(rt, "memory");
-    let (archive, machine) = load_image(alloc, picked.image).expect(rt, "an archive");
-    let entries = archive.length();
-    assert!(rt; entries <= 5);
-    let end = MIXED_ENDS[entries as usize];
-    assert!(rt; entries == 0 || journal.starts_with(&MIXED_JOURNAL[..end]));
-    for moment in 0..machine.moments() {
-        expect_entries(alloc, &machine, moment, entries, entries).expect(rt, "the entries");
+/// The archive with this journal, which the mixed script may leave: the journal spells as many of the script's
+/// entries as the archive has. A stop at any moment inside its load leaves as many.
+fn expect_same_after_stops(
+    alloc: Global,
+    journal: &[u8],
+    entries: u64,
+    load: &MemMachine,
+) -> Result<(), RowError> {
+    let Some(end) = MIXED_ENDS.get(entries as usize) else {
+        return Err(RowError::Count {
+            row: 0,
+            count: entries,
+        });
+    };
+    let end = (*end).min(MIXED_JOURNAL.len());
+    if entries != 0 && !journal.starts_with(&MIXED_JOURNAL[..end]) {
+        let left = Vec::from_slice(alloc, journal)?;
+        return Err(RowError::OtherJournal { left });
     }
+    for moment in 0..load.moments() {
+        expect_entries(alloc, load, moment, entries, entries)?;
+    }
+    Ok(())
+}
+
+/// The same of an image.
+fn expect_same(alloc: Global, picked: Picked) -> Result<(), RowError> {
+    let journal = Vec::from_slice(alloc, &picked.image.journal)?;
+    let (load, entries) = load_entries(alloc, picked.image)?;
+    expect_same_after_stops(alloc, &journal, entries, &load)
+}
+
+/// The same of each image that a stop may leave at a moment.
+fn expect_same_at(alloc: Global, machine: &MemMachine, moment: usize) -> Result<(), RowError> {
+    for tail in &TAILS {
+        let picked = pick_image(alloc, machine, moment, *tail)?;
+        expect_same(alloc, picked)?;
+    }
+    Ok(())
 }
 
 #[test]
-fn a_stop_inside_the_load_that_follows_leaves_the_same_history(rt: HostRuntime) {
+fn a_stop_inside_the_load_that_follows_leaves_the_same_history(
+    rt: HostRuntime,
+) -> Result<(), RowError> {
     let alloc = rt.alloc();
-    let machine = machine_behind(&rt, alloc, MIXED_SCRIPT);
+    let machine = machine_after(alloc, new_disk(alloc), &MIXED)?;
     for moment in 0..machine.moments() {
-        for fill in FILLS {
-            for extra in EXTRAS {
-                let picked = pick_image(alloc, &machine, moment, Tail { extra, fill }).expect(
-                    &rt, "an image",
-                );
-                expect_same_after_stops(&rt, alloc, picked);
-            }
-        }
+        expect_same_at(alloc, &machine, moment)?;
     }
+    Ok(())
 }
 
 /// The machine on which the first script ran until this call failed: it ended with this status, and showed
 /// nothing.
-fn cut_short(rt: &impl Abort, alloc: Global, call: CallKind, nth: u64, want: Status) -> MemMachine {
+fn cut_short(
+    alloc: Global,
+    call: CallKind,
+    nth: u64,
+    status: Status,
+) -> Result<MemMachine, RowError> {
     let fault = Fault {
         call,
         nth,
         landed: 0,
     };
-    let mut machine = make_machine(alloc, FIRST_SCRIPT, b"", &[fault]).expect(rt, "a machine");
-    assert_eq!(rt; run_on(alloc, &mut machine).expect(rt, "a run"), want);
-    assert_eq!(rt; machine.shown(), b"".as_slice());
-    machine
+    let mut machine = make_machine(alloc, FIRST_SCRIPT, b"", &[fault])?;
+    expect_end(alloc, &mut machine, nth as usize, status, b"")?;
+    Ok(machine)
+}
+
+/// What stands in the byte of a gate that isn't synced, and how many entries are there then.
+const GATES: [(Fill, u64); 4] = [
+    (Fill::Written, 1),
+    (Fill::Byte(0xa5), 1),
+    (Fill::Byte(0), 0),
+    (Fill::Byte(b'x'), 0),
+];
+
+/// At this moment of a run whose gate isn't synced its byte decides.
+fn expect_gate(alloc: Global, machine: &MemMachine, moment: usize) -> Result<(), RowError> {
+    for (fill, wanted) in &GATES {
+        expect_filled(alloc, machine, moment, *fill, *wanted)?;
+    }
+    expect_entries(alloc, machine, moment, 0, 1)
 }
 
 #[test]
-fn where_the_gate_is_not_synced_its_byte_decides(rt: HostRuntime) {
+fn where_the_gate_is_not_synced_its_byte_decides(rt: HostRuntime) -> Result<(), RowError> {
     let alloc = rt.alloc();
-    let machine = cut_short(&rt, alloc, CallKind::Sync, 4, Status::Disk);
+    let machine = cut_short(alloc, CallKind::Sync, 4, Status::Disk)?;
     for moment in 0..6 {
-        expect_entries(alloc, &machine, moment, 0, 0).expect(&rt, "the entries");
+        expect_entries(alloc, &machine, moment, 0, 0)?;
     }
     for moment in 6..machine.moments() {
-        expect_entries(alloc, &machine, moment, 0, 1).expect(&rt, "the entries");
-        for (fill, want) in [
-            (Fill::Written, 1),
-            (Fill::Byte(0xa5), 1),
-            (Fill::Byte(0), 0),
-            (Fill::Byte(b'x'), 0),
-        ] {
-            expect_filled(&rt, alloc, &machine, moment, fill, want);
-        }
+        expect_gate(alloc, &machine, moment)?;
     }
+    Ok(())
 }
 
 #[test]
-fn a_fault_before_the_gate_leaves_no_entry(rt: HostRuntime) {
+fn a_fault_before_the_gate_leaves_no_entry(rt: HostRuntime) -> Result<(), RowError> {
     let alloc = rt.alloc();
-    for (call, nth, want) in [
-        (CallKind::Sync, 3, Status::Disk),
-        (CallKind::Pull, 1, Status::Source),
-    ] {
-        let machine = cut_short(&rt, alloc, call, nth, want);
-        for moment in 0..machine.moments() {
-            expect_entries(alloc, &machine, moment, 0, 0).expect(&rt, "the entries");
-        }
-    }
+    let unsynced = cut_short(alloc, CallKind::Sync, 3, Status::Disk)?;
+    expect_moments(alloc, &unsynced, &[(0..unsynced.moments(), 0, 0)])?;
+    let unread = cut_short(alloc, CallKind::Pull, 1, Status::Source)?;
+    expect_moments(alloc, &unread, &[(0..unread.moments(), 0, 0)])
 }
 
 #[test]
-fn an_arrival_whose_reply_fails_is_in_the_journal(rt: HostRuntime) {
+fn an_arrival_whose_reply_fails_is_in_the_journal(rt: HostRuntime) -> Result<(), RowError> {
     let alloc = rt.alloc();
-    let machine = cut_short(&rt, alloc, CallKind::Push, 1, Status::Sink);
+    let machine = cut_short(alloc, CallKind::Push, 1, Status::Sink)?;
     let last = machine.moments() - 1;
-    expect_entries(alloc, &machine, last, 1, 1).expect(&rt, "the entries");
-    expect_shown(alloc, &machine, 0).expect(&rt, "the entries");
+    expect_entries(alloc, &machine, last, 1, 1)?;
+    expect_shown(alloc, &machine, 0)
 }

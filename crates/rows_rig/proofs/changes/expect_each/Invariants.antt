@@ -1,6 +1,6 @@
 use Rattle.archive_hand.specs.States.{Reaches}
 use Rattle.machine_mem.specs.Meaning.{disk_state}
-use Rattle.rows_rig.proofs.changes.expect_changes.Given as goal
+use Rattle.rows_rig.proofs.changes.expect_each.Given as goal
 
 -- the disk reaches as far as the archive
 abbrev pub invariant-loop-change : goal.invariant-loop-change
