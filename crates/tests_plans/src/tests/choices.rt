@@ -1,5 +1,5 @@
 //! Plans that were worked out by hand.
-use super::given::posting;
+use super::given::{expect_same, expect_same_in, posting};
 use base_commands::Kind;
 use base_types::{Fraction, Posting, Time};
 use plans_choice::{Choice, ChoiceError, choose};
@@ -40,9 +40,8 @@ fn expect_choice(
 ) {
     let list = [posting(rt, 1, 10, 40), posting(rt, 2, 20, 30)];
     let choice = chosen(rt, alloc, &list, kind, factor, 40).expect(rt, "a choice");
-    assert_eq!(rt; choice.cuts.len(), segments, "{kind:?} with {factor:?}");
-    assert_eq!(rt; choice.space, space, "{kind:?} with {factor:?}");
-    assert_eq!(rt; choice.cost, cost, "{kind:?} with {factor:?}");
+    let found = (choice.cuts.len(), choice.space, choice.cost);
+    expect_same_in(rt, (kind, factor), found, (segments, space, cost));
 }
 
 #[test]
@@ -63,9 +62,9 @@ fn plans_of_two_documents(rt: HostRuntime) {
 fn expect_each_cut(rt: &impl Abort, alloc: Global, kind: Kind, factor: (u32, u32)) {
     let list = [posting(rt, 1, 10, 40), posting(rt, 2, 20, 30)];
     let choice = chosen(rt, alloc, &list, kind, factor, 40).expect(rt, "a choice");
-    assert_eq!(rt; choice.cuts.len(), 3);
+    expect_same_in(rt, kind, choice.cuts.len(), 3);
     for (cut, wanted) in choice.cuts.iter().zip(&[10, 20, 30]) {
-        assert_eq!(rt; cut.seconds, *wanted, "{kind:?}");
+        expect_same_in(rt, kind, cut.seconds, *wanted);
     }
 }
 
@@ -90,9 +89,9 @@ fn expect_too_wide(rt: &impl Abort, alloc: Global, seconds: u64) {
     let list = in_each_second(rt, alloc, seconds);
     let refused = chosen(rt, alloc, &list, Kind::Guarantee, (2, 1), seconds);
     let boundaries = seconds.saturating_add(1);
-    assert_eq!(rt; refused.err(), Some(ChoiceError::TooWide { boundaries }));
+    expect_same(rt, refused.err(), Some(ChoiceError::TooWide { boundaries }));
     let choice = chosen(rt, alloc, &list, Kind::Uniform, (2, 1), seconds);
-    assert_eq!(rt; choice.expect(rt, "a choice").space, seconds);
+    expect_same(rt, choice.expect(rt, "a choice").space, seconds);
 }
 
 #[test]

@@ -1,5 +1,5 @@
 //! Plans that are fit and plans that aren't, worked out by hand.
-use super::given::posting;
+use super::given::{expect_same_in, posting};
 use base_commands::Kind;
 use base_types::{Fraction, Posting, Time};
 use plans_kinds::{is_fit, partition_of};
@@ -51,7 +51,7 @@ fn expect_fit(
     (cuts, horizon, want): (&[u64], u64, bool),
 ) {
     let found = fit(rt, alloc, &two_documents(rt), kind, factor, cuts, horizon);
-    assert_eq!(rt; found, want, "{cuts:?} up to {horizon} with {factor:?}");
+    expect_same_in(rt, (cuts, horizon, factor), found, want);
 }
 
 /// Factors over 1, cuts, the horizon, and whether the cuts are a fit guarantee of the two documents.
@@ -150,11 +150,9 @@ fn fill(rt: &impl Abort, list: &mut Vec<Posting>, seconds: u64) {
 fn expect_one_segment(rt: &impl Abort, alloc: Global, list: &[Posting], want: bool) {
     let end = list.len() as u64;
     let kept = fit(rt, alloc, list, Kind::Guarantee, (u32::MAX, 1), &[0], end);
-    assert_eq!(rt; kept, want, "{end} seconds");
-    assert!(rt;
-        fit(rt, alloc, list, Kind::Uniform, (1, 1), &[0], end),
-        "{end} seconds"
-    );
+    expect_same_in(rt, end, kept, want);
+    let fits = fit(rt, alloc, list, Kind::Uniform, (1, 1), &[0], end);
+    expect_same_in(rt, end, fits, true);
 }
 
 /// One document with a posting in each second: as many boundaries as a plan that keeps to a guarantee may
@@ -169,22 +167,26 @@ fn a_list_that_is_too_wide(rt: HostRuntime) {
     expect_one_segment(&rt, alloc, &list, false);
 }
 
-/// Whether there is a partition up to 40 with these cuts.
+/// Cuts, and those of the partition up to 40 that they make; none where they make none.
+const PARTITIONS: [(&[u64], Option<&[u64]>); 3] = [
+    (&[10, 20], Some(&[10, 20, 40])),
+    (&[], None),
+    (&[40], None),
+];
+
+/// The partition up to 40 with these cuts is that one, or there is none.
 fn expect_partition(rt: &impl Abort, alloc: Global, cuts: &[u64], wanted: Option<&[u64]>) {
     let horizon = Time::new(40).expect(rt, "a horizon");
-    let partition = partition_of(alloc, &times(rt, alloc, cuts), horizon);
-    match partition.expect(rt, "memory") {
-        Some(partition) => {
-            let wanted = wanted.expect(rt, "no partition");
-            assert_eq!(rt; partition.cuts(), wanted);
-        }
-        None => assert!(rt; wanted.is_none(), "{cuts:?}"),
+    let partition = partition_of(alloc, &times(rt, alloc, cuts), horizon).expect(rt, "memory");
+    match &partition {
+        Some(partition) => expect_same_in(rt, cuts, Some(partition.cuts()), wanted),
+        None => expect_same_in(rt, cuts, None, wanted),
     }
 }
 
 #[test]
 fn the_partition_of_cuts(rt: HostRuntime) {
-    expect_partition(&rt, rt.alloc(), &[10, 20], Some(&[10, 20, 40]));
-    expect_partition(&rt, rt.alloc(), &[], None);
-    expect_partition(&rt, rt.alloc(), &[40], None);
+    for (cuts, wanted) in &PARTITIONS {
+        expect_partition(&rt, rt.alloc(), cuts, *wanted);
+    }
 }

@@ -1,8 +1,24 @@
-//! Lists, tables and factors for the tests.
+//! What the tests share: what is compared, lists, tables and factors.
 use base_types::{DocId, Fraction, Posting, Span, Time};
 use plans_partitions::Table;
 use std::alloc::Global;
+use std::fmt::Debug;
 use std::process::Abort;
+
+/// What is found is what is wanted.
+pub(crate) fn expect_same<T: PartialEq + Debug + Drop>(rt: &impl Abort, found: T, wanted: T) {
+    assert_eq!(rt; found, wanted);
+}
+
+/// The same in a row, which is told where it isn't so.
+pub(crate) fn expect_same_in<R: Debug + Drop, T: PartialEq + Debug + Drop>(
+    rt: &impl Abort,
+    row: R,
+    found: T,
+    wanted: T,
+) {
+    assert_eq!(rt; found, wanted, "in {row:?}");
+}
 
 /// A number of documents, and the times from which and before which they are alive.
 pub(crate) type Alike = (u32, u64, u64);

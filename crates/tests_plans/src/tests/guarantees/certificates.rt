@@ -1,6 +1,6 @@
 //! What `check` takes for a certificate, and what not.
 use super::given::{FIVE, cut_at};
-use crate::tests::given::{factor, listed, table_of};
+use crate::tests::given::{expect_same_in, factor, listed, table_of};
 use plans_guarantee::{Certificate, check};
 use plans_partitions::Table;
 use std::alloc::Global;
@@ -54,7 +54,7 @@ fn expect_check(
     let certificate = Certificate::new(pi.to_vec(alloc).expect(rt, "memory"));
     let partition = cut_at(rt, alloc, cuts);
     let found = check(alloc, table, factor(rt, 2, 1), &partition, &certificate);
-    assert_eq!(rt; found.expect(rt, "memory"), passes, "{why}");
+    expect_same_in(rt, why, found.expect(rt, "memory"), passes);
 }
 
 #[test]

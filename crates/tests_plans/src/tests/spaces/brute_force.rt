@@ -1,10 +1,10 @@
 //! Plans and fronts beside those that trying every set of cuts finds.
 ghost use Rattle.std.specs.Prelude.{◌<◌};
 
-use crate::tests::given::{Alike, factor, listed, table_of};
+use crate::tests::given::{Alike, expect_same, factor, listed, table_of};
 use base_types::Span;
 use plans_partitions::Table;
-use plans_space::{Load, front, plan};
+use plans_space::{Load, Point, front, plan};
 use std::alloc::Global;
 use std::process::Abort;
 
@@ -35,6 +35,14 @@ fn cost(alike: &[Alike], since: u64, from: u64, to: u64) -> u128 {
     u128::from(to.saturating_sub(since.max(from))) * u128::from(size(alike, from, to))
 }
 
+/// The lesser of a number and another one, if there is one.
+fn lesser(number: u128, other: Option<u128>) -> u128 {
+    match other {
+        Some(other) => number.min(other),
+        None => number,
+    }
+}
+
 /// The least cost of the partitions from the first of the times to the last that cut at some of those
 /// between and are charged at most so much, by trying each; None where there is none.
 fn least_cost(alike: &[Alike], since: u64, unit: u64, charge: u64, times: &[u64]) -> Option<u128>
@@ -47,14 +55,13 @@ fn least_cost(alike: &[Alike], since: u64, unit: u64, charge: u64, times: &[u64]
     let mut least = None;
     for (k, cut) in later.iter().enumerate() {
         let units = size(alike, *first, *cut).div_ceil(unit);
-        let Some(left) = charge.checked_sub(units) else {
-            continue;
-        };
-        let Some(rest) = least_cost(alike, since, unit, left, &later[k..]) else {
-            continue;
-        };
-        let whole = rest.saturating_add(cost(alike, since, *first, *cut));
-        least = Some(least.map_or(whole, |other: u128| other.min(whole)));
+        if units <= charge {
+            let rest = least_cost(alike, since, unit, charge - units, &later[k..]);
+            if let Some(rest) = rest {
+                let whole = rest.saturating_add(cost(alike, since, *first, *cut));
+                least = Some(lesser(whole, least));
+            }
+        }
     }
     least
 }
@@ -72,6 +79,74 @@ fn candidates(rt: &impl Abort, alloc: Global, times: &[u64]) -> Vec<u64> {
     candidates
 }
 
+/// Documents, the seconds that are asked for, and the charges of segments.
+#[derive(Drop)]
+struct Case<'a> {
+    alike: &'a [Alike],
+    /// The first second that is asked for.
+    since: u64,
+    /// How many documents make one unit of charge.
+    unit: u64,
+    /// The most that a partition is charged.
+    budget: u64,
+    /// The times at which a plan may cut.
+    times: &'a [u64],
+    ghost some: { 0 < unit },
+}
+
+/// The least cost of the partitions of a case that are charged at most so much.
+fn least_of(case: &Case<'_>, charge: u64) -> Option<u128> {
+    least_cost(case.alike, case.since, case.unit, charge, case.times)
+}
+
+/// What the segments between cuts are charged, and their expected cost.
+fn charged(case: &Case<'_>, cuts: &[u64]) -> (u64, u128) {
+    let (mut units, mut costs) = (0u64, 0u128);
+    for segment in cuts.windows(2) {
+        let size = size(case.alike, segment[0], segment[1]);
+        units = units.saturating_add(size.div_ceil(case.unit));
+        costs = costs.saturating_add(cost(case.alike, case.since, segment[0], segment[1]));
+    }
+    (units, costs)
+}
+
+/// The plan with these cuts has the least cost of those that keep to the budget, or is one segment.
+fn expect_least(rt: &impl Abort, case: &Case<'_>, cuts: &[u64], horizon: u64, cheapest: u128) {
+    let first = case.times.first().copied().unwrap_or(0);
+    let whole = cost(case.alike, case.since, first, horizon);
+    expect_same(rt, cheapest, lesser(whole, least_of(case, case.budget)));
+    let (units, costs) = charged(case, cuts);
+    expect_same(rt, costs, cheapest);
+    expect_same(rt, units <= case.budget || cuts.len() == 2, true);
+}
+
+/// Whether a cost is below the one before it, if there is one.
+fn is_below(cost: u128, before: Option<u128>) -> bool {
+    match before {
+        Some(before) => cost < before,
+        None => true,
+    }
+}
+
+/// At a point of a front the least cost falls from that before it, which stays the same up to there.
+fn expect_fall(rt: &impl Abort, case: &Case<'_>, point: &Point, before: Option<u128>) {
+    if let Some(less) = point.charge.checked_sub(1) {
+        expect_same(rt, least_of(case, less), before);
+    }
+    expect_same(rt, is_below(point.cost, before), true);
+    expect_same(rt, least_of(case, point.charge), Some(point.cost));
+}
+
+/// The points of a front are those at which the least cost falls, up to the budget.
+fn expect_falls(rt: &impl Abort, case: &Case<'_>, points: &[Point]) {
+    let mut before = None;
+    for point in points {
+        expect_fall(rt, case, point, before);
+        before = Some(point.cost);
+    }
+    expect_same(rt, least_of(case, case.budget), before);
+}
+
 /// Holds a plan and a front of the documents to what trying every set of cuts finds.
 fn compare(
     rt: &impl Abort,
@@ -85,37 +160,19 @@ fn compare(
     let factor = factor(rt, over, under);
     let cap = table.postings().saturating_mul(u64::from(factor.over())) / u64::from(factor.under());
     let unit = cap.div_ceil(4096).max(1);
-    let budget = cap / unit;
     let times = candidates(rt, alloc, table.boundaries());
+    let case = Case {
+        alike,
+        since,
+        unit,
+        budget: cap / unit,
+        times: &times,
+    };
     let load = Load::new(|span: Span| span.to.saturating_sub(span.from.max(since)));
-
     let (partition, cheapest) = plan(alloc, &table, factor, &load).expect(rt, "a plan");
-    let first = times.first().copied().unwrap_or(0);
-    let whole = cost(alike, since, first, horizon);
-    let found = least_cost(alike, since, unit, budget, &times);
-    assert_eq!(rt; cheapest, found.map_or(whole, |cost: u128| cost.min(whole)));
-    let (mut units, mut costs) = (0u64, 0u128);
-    for segment in partition.cuts().windows(2) {
-        units = units.saturating_add(size(alike, segment[0], segment[1]).div_ceil(unit));
-        costs = costs.saturating_add(cost(alike, since, segment[0], segment[1]));
-    }
-    assert_eq!(rt; costs, cheapest);
-    assert!(rt; units <= budget || partition.segments() == 1);
-
-    // the least cost falls at each point, and stays the same from one to the next
-    let mut before = None;
-    for point in &front(alloc, &table, factor, &load).expect(rt, "a front") {
-        if let Some(less) = point.charge.checked_sub(1) {
-            assert_eq!(rt; least_cost(alike, since, unit, less, &times), before);
-        }
-        assert!(rt; before.is_none_or(|cost: u128| point.cost < cost));
-        before = Some(point.cost);
-        assert_eq!(rt;
-            least_cost(alike, since, unit, point.charge, &times),
-            before
-        );
-    }
-    assert_eq!(rt; least_cost(alike, since, unit, budget, &times), before);
+    expect_least(rt, &case, partition.cuts(), horizon, cheapest);
+    let points = front(alloc, &table, factor, &load).expect(rt, "a front");
+    expect_falls(rt, &case, &points);
 }
 
 #[test]

@@ -1,10 +1,11 @@
 //! Which spans a load is asked for.
 ghost use Rattle.std.specs.Prelude.{◌≤◌, ◌^◌};
 
-use crate::tests::given::{OVERLAP, factor, listed, table_of};
+use crate::tests::given::{OVERLAP, expect_same, factor, listed, table_of};
 use base_types::Span;
 use plans_space::{Load, front, plan};
 use std::cell::RefCell;
+use std::process::Abort;
 
 /// The span's seconds; notes the call, if there is memory.
 fn noted(calls: &RefCell<Vec<Span>>, span: Span) -> u64
@@ -14,6 +15,26 @@ fn noted(calls: &RefCell<Vec<Span>>, span: Span) -> u64
         let _ = calls.push(span);
     }
     span.to - span.from
+}
+
+/// The elementary intervals of the documents that overlap, up to 50, for two calls.
+const ASKED: [(u64, u64); 8] = [
+    (10, 20),
+    (20, 30),
+    (30, 40),
+    (40, 50),
+    (10, 20),
+    (20, 30),
+    (30, 40),
+    (40, 50),
+];
+
+/// The spans are those.
+fn expect_spans(rt: &impl Abort, spans: &[Span]) {
+    expect_same(rt, spans.len(), ASKED.len());
+    for (span, row) in spans.iter().zip(&ASKED) {
+        expect_same(rt, (span.from, span.to), *row);
+    }
 }
 
 /// Each call asks once for each elementary interval.
@@ -28,19 +49,5 @@ fn a_load_is_asked_once_for_each_elementary_interval(rt: HostRuntime) {
     let Ok(calls) = calls.try_borrow() else {
         panic!(rt; "the calls");
     };
-    let asked = [
-        (10u64, 20u64),
-        (20, 30),
-        (30, 40),
-        (40, 50),
-        (10, 20),
-        (20, 30),
-        (30, 40),
-        (40, 50),
-    ];
-    assert_eq!(rt; calls.len(), asked.len());
-    for (span, (from, to)) in calls.iter().zip(&asked) {
-        assert_eq!(rt; span.from, *from);
-        assert_eq!(rt; span.to, *to);
-    }
+    expect_spans(&rt, &calls);
 }

@@ -1,8 +1,8 @@
 //! Plans that were worked out by hand.
-use crate::tests::given::{Alike, OVERLAP, factor, listed, table_of};
+use crate::tests::given::{Alike, OVERLAP, expect_same, expect_same_in, factor, listed, table_of};
 use base_types::Span;
 use plans_partitions::Table;
-use plans_space::{Load, front, plan};
+use plans_space::{Load, Point, front, plan};
 use std::alloc::Global;
 use std::process::Abort;
 
@@ -19,28 +19,33 @@ fn expect_plan(
     let (partition, least) = plan(alloc, table, factor(rt, over, under), &load).expect(
         rt, "a plan",
     );
-    assert_eq!(rt;
-        partition.segments(),
-        segments,
-        "{over}/{under} since {since}"
-    );
-    assert_eq!(rt; least, cost, "{over}/{under} since {since}");
+    let row = (since, over, under);
+    expect_same_in(rt, row, (partition.segments(), least), (segments, cost));
 }
 
-/// The front of a table, where each second is asked for, has these charges and costs.
-fn expect_front(
+/// The front of a table, where each second is asked for.
+fn front_of(
     rt: &impl Abort,
     alloc: Global,
     table: &Table,
     (over, under): (u32, u32),
+) -> Vec<Point> {
+    let load = Load::new(|span: Span| span.to - span.from);
+    front(alloc, table, factor(rt, over, under), &load).expect(rt, "a front")
+}
+
+/// The front of a table has these charges and costs.
+fn expect_front(
+    rt: &impl Abort,
+    alloc: Global,
+    table: &Table,
+    factor: (u32, u32),
     wanted: &[(u64, u128)],
 ) {
-    let load = Load::new(|span: Span| span.to - span.from);
-    let points = front(alloc, table, factor(rt, over, under), &load).expect(rt, "a front");
-    assert_eq!(rt; points.len(), wanted.len());
-    for (point, (charge, cost)) in points.iter().zip(wanted) {
-        assert_eq!(rt; point.charge, *charge);
-        assert_eq!(rt; point.cost, *cost);
+    let points = front_of(rt, alloc, table, factor);
+    expect_same(rt, points.len(), wanted.len());
+    for (point, row) in points.iter().zip(wanted) {
+        expect_same(rt, (point.charge, point.cost), *row);
     }
 }
 
@@ -87,9 +92,8 @@ fn expect_charges(
     let alike = [(postings, 0, 10), (3000, 10, 20)];
     let table = table_of(rt, alloc, &listed(rt, alloc, &alike), 20);
     expect_plan(rt, alloc, &table, (0, 1, 1), wanted);
-    let load = Load::new(|span: Span| span.to - span.from);
-    let front = front(alloc, &table, factor(rt, 1, 1), &load).expect(rt, "a front");
-    assert_eq!(rt; front.len(), points, "{postings} postings");
+    let front = front_of(rt, alloc, &table, (1, 1));
+    expect_same_in(rt, postings, front.len(), points);
 }
 
 /// Above a cap of 4,096 a segment is charged in units of 2: 3,001 postings take 1,501 of them, and so
