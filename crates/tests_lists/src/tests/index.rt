@@ -4,9 +4,9 @@ ghost use Rattle.lists_versions.specs.declared.change.Change.{Change};
 ghost use Rattle.lists_index.specs.Indexing.{ComesLater};
 ghost use Rattle.lists_index.specs.Loads.{Loads};
 
-use crate::tests::given::posting;
-use base_types::{DocId, Key, NOW, Posting, Span, Time};
-use lists_index::{Index, Loader};
+use crate::tests::given::{Row, expect_list, expect_same, expect_same_in};
+use base_types::{DocId, Key, NOW, Span, Time};
+use lists_index::{Index, ListPart, Loader};
 use std::alloc::Global;
 use std::process::Abort;
 use text_words::NumberError;
@@ -96,21 +96,15 @@ fn key(rt: &impl Abort, alloc: Global, word: &str) -> Key {
 }
 
 /// The word's list is this, and no text has the word where it is empty.
-fn expect_word(rt: &impl Abort, alloc: Global, index: &Index, word: &str, wanted: &[Posting]) {
-    expect_list(rt, alloc, index, word, wanted);
-    let known = index.knows(&key(rt, alloc, word));
-    assert_eq!(rt; known, !wanted.is_empty(), "{word}");
-}
-
-/// The word's list is this.
-fn expect_list(rt: &impl Abort, alloc: Global, index: &Index, word: &str, wanted: &[Posting]) {
-    let list = index.list(alloc, &key(rt, alloc, word));
-    let list = list.expect(rt, "memory");
-    assert_eq!(rt; list.as_slice(), wanted, "{word}");
+fn expect_word(rt: &impl Abort, alloc: Global, index: &Index, word: &str, wanted: &[Row]) {
+    let key = key(rt, alloc, word);
+    expect_same_in(rt, word, index.knows(&key), !wanted.is_empty());
+    let list = index.list(alloc, &key).expect(rt, "memory");
+    expect_list(rt, alloc, word, &list, wanted);
 }
 
 /// Words, and the list of each.
-type Lists<'a> = &'a [(&'a str, &'a [Posting])];
+type Lists<'a> = &'a [(&'a str, &'a [Row])];
 
 /// The words' lists are these.
 fn expect_words(rt: &impl Abort, alloc: Global, index: &Index, lists: Lists<'_>) {
@@ -119,68 +113,80 @@ fn expect_words(rt: &impl Abort, alloc: Global, index: &Index, lists: Lists<'_>)
     }
 }
 
-/// After these changes, committed or loaded, the words' lists are these.
-fn expect_lists(rt: &impl Abort, alloc: Global, rows: &[(u32, Option<&str>)], lists: Lists<'_>)
-    requires { length rows.now < 1000 }
-{
-    expect_words(rt, alloc, &committed(rt, alloc, rows), lists);
-    expect_words(rt, alloc, &loaded(rt, alloc, rows), lists);
+/// Changes at 10, 20, 30, .. seconds, each of a document to a text or to none, and words with their lists
+/// after them, worked out by hand.
+struct History {
+    changes: &'static [(u32, Option<&'static str>)],
+    lists: Lists<'static>,
 }
 
-// What is wanted is worked out by hand, here and below, from the changes at 10, 20, 30, .. seconds.
-#[test]
-fn a_word_comes_in_any_spelling_and_goes(rt: HostRuntime) {
-    let rows = [
-        (7, Some("Die Straße")),
-        (7, Some("STRASSE, Straße; strasse")),
-        (7, None),
-        (7, Some("Strasse")),
-    ];
-    let street = [
-        posting(7, 10, 20, 1),
-        posting(7, 20, 30, 3),
-        posting(7, 40, NOW, 1),
-    ];
-    let lists = [("strasse", &street[..]), ("die", &street[..1])];
-    expect_lists(&rt, rt.alloc(), &rows, &lists);
+const HISTORIES: [History; 3] = [
+    // a word comes in any spelling and goes
+    History {
+        changes: &[
+            (7, Some("Die Straße")),
+            (7, Some("STRASSE, Straße; strasse")),
+            (7, None),
+            (7, Some("Strasse")),
+        ],
+        lists: &[
+            (
+                "strasse",
+                &[(7, 10, 20, 1), (7, 20, 30, 3), (7, 40, NOW, 1)],
+            ),
+            ("die", &[(7, 10, 20, 1)]),
+        ],
+    },
+    // a word stands in two documents
+    History {
+        changes: &[
+            (9, Some("red blue")),
+            (3, Some("blue")),
+            (9, Some("Blue BLUE")),
+            (3, None),
+            (9, Some("red")),
+        ],
+        lists: &[
+            ("red", &[(9, 10, 30, 1), (9, 50, NOW, 1)]),
+            ("blue", &[(3, 20, 40, 1), (9, 10, 30, 1), (9, 30, 50, 2)]),
+            ("green", &[]),
+        ],
+    },
+    // versions with a word as often make one posting
+    History {
+        changes: &[
+            (1, None),
+            (1, Some("To be, or not to be")),
+            (2, Some("not")),
+            (1, Some("be to to be")),
+        ],
+        lists: &[
+            ("to", &[(1, 20, NOW, 2)]),
+            ("be", &[(1, 20, NOW, 2)]),
+            ("or", &[(1, 20, 40, 1)]),
+            ("not", &[(1, 20, 40, 1), (2, 30, NOW, 1)]),
+        ],
+    },
+];
+
+/// After the changes of a history, committed or loaded, the words' lists are its.
+fn expect_history(rt: &impl Abort, alloc: Global, history: &History) {
+    let changes = history.changes;
+    assert!(rt; changes.len() < 1000);
+    expect_words_of(rt, alloc, committed(rt, alloc, changes), history.lists);
+    expect_words_of(rt, alloc, loaded(rt, alloc, changes), history.lists);
+}
+
+/// The words' lists in an index are these.
+fn expect_words_of(rt: &impl Abort, alloc: Global, index: Index, lists: Lists<'_>) {
+    expect_words(rt, alloc, &index, lists);
 }
 
 #[test]
-fn a_word_stands_in_two_documents(rt: HostRuntime) {
-    let rows = [
-        (9, Some("red blue")),
-        (3, Some("blue")),
-        (9, Some("Blue BLUE")),
-        (3, None),
-        (9, Some("red")),
-    ];
-    let red = [posting(9, 10, 30, 1), posting(9, 50, NOW, 1)];
-    let blue = [
-        posting(3, 20, 40, 1),
-        posting(9, 10, 30, 1),
-        posting(9, 30, 50, 2),
-    ];
-    let lists = [("red", &red[..]), ("blue", &blue[..]), ("green", &[])];
-    expect_lists(&rt, rt.alloc(), &rows, &lists);
-}
-
-#[test]
-fn versions_with_a_word_as_often_make_one_posting(rt: HostRuntime) {
-    let rows = [
-        (1, None),
-        (1, Some("To be, or not to be")),
-        (2, Some("not")),
-        (1, Some("be to to be")),
-    ];
-    let to = [posting(1, 20, NOW, 2)];
-    let not = [posting(1, 20, 40, 1), posting(2, 30, NOW, 1)];
-    let lists = [
-        ("to", &to[..]),
-        ("be", &to[..]),
-        ("or", &not[..1]),
-        ("not", &not[..]),
-    ];
-    expect_lists(&rt, rt.alloc(), &rows, &lists);
+fn words_have_the_lists_of_their_versions(rt: HostRuntime) {
+    for history in &HISTORIES {
+        expect_history(&rt, rt.alloc(), history);
+    }
 }
 
 /// Prepares a change of document 1 and drops it.
@@ -195,62 +201,70 @@ fn a_change_that_is_dropped_changes_no_answer(rt: HostRuntime) {
     let alloc = rt.alloc();
     let mut index = committed(&rt, alloc, &[(1, Some("red"))]);
     drop_change(&rt, alloc, &mut index, "blue red red");
-    let red = [posting(1, 10, NOW, 1)];
-    expect_words(&rt, alloc, &index, &[("blue", &[]), ("red", &red)]);
+    expect_words(
+        &rt,
+        alloc,
+        &index,
+        &[("blue", &[]), ("red", &[(1, 10, NOW, 1)])],
+    );
     commit(&rt, alloc, &mut index, DocId(1), time_at(1), Some("green"));
-    let red = [posting(1, 10, 20, 1)];
-    let green = [posting(1, 20, NOW, 1)];
-    let lists = [("blue", &[][..]), ("red", &red[..]), ("green", &green[..])];
+    let lists: [(&str, &[Row]); 3] = [
+        ("blue", &[]),
+        ("red", &[(1, 10, 20, 1)]),
+        ("green", &[(1, 20, NOW, 1)]),
+    ];
     expect_words(&rt, alloc, &index, &lists);
 }
+
+/// Documents 9 and 3 have red, the latter twice; it is gone from 9 for a while, and no one has green.
+const REDS: [(u32, Option<&str>); 4] = [
+    (9, Some("red")),
+    (3, Some("red red")),
+    (9, None),
+    (9, Some("red")),
+];
+
+/// Words and spans, the part of the word's list in the span, and how long the whole list is.
+const PARTS: [(&str, (u64, u64), &[Row], u64); 6] = [
+    ("red", (5, 10), &[], 3),
+    ("red", (5, 11), &[(9, 10, 30, 1)], 3),
+    ("red", (29, 40), &[(3, 20, NOW, 2), (9, 10, 30, 1)], 3),
+    ("red", (30, 31), &[(3, 20, NOW, 2)], 3),
+    (
+        "red",
+        (29, 41),
+        &[(3, 20, NOW, 2), (9, 10, 30, 1), (9, 40, NOW, 1)],
+        3,
+    ),
+    ("green", (5, 100), &[], 0),
+];
 
 /// The part that the word's list has in a span is this, of a list so long.
 fn expect_part(
     rt: &impl Abort,
     alloc: Global,
     index: &Index,
-    word: &str,
-    ends: (u64, u64),
-    wanted: &[Posting],
-    whole: u64,
+    (word, ends, wanted, whole): (&str, (u64, u64), &[Row], u64),
 ) {
     let span = Span::new(ends.0, ends.1).expect(rt, "a span");
     let part = index.part_in(alloc, &key(rt, alloc, word), span);
-    let part = part.expect(rt, "memory");
-    assert_eq!(rt; part.rows.as_slice(), wanted, "{word} in {ends:?}");
-    assert_eq!(rt; part.whole, whole, "{word} in {ends:?}");
+    let ListPart { rows, whole: found } = part.expect(rt, "memory");
+    expect_list(rt, alloc, ends, &rows, wanted);
+    expect_same_in(rt, ends, found, whole);
 }
 
-/// Documents 9 and 3 have red, the latter twice; it is gone from 9 for a while, and no one has green.
-fn expect_parts_of_red(rt: &impl Abort, alloc: Global, index: &Index) {
-    let all = [
-        posting(3, 20, NOW, 2),
-        posting(9, 10, 30, 1),
-        posting(9, 40, NOW, 1),
-    ];
-    for (ends, wanted) in [
-        ((5, 10), &all[..0]),
-        ((5, 11), &all[1..2]),
-        ((29, 40), &all[..2]),
-        ((30, 31), &all[..1]),
-        ((29, 41), &all[..]),
-    ] {
-        expect_part(rt, alloc, index, "red", ends, wanted, 3);
+/// The parts of lists in an index of these changes are those.
+fn expect_parts(rt: &impl Abort, alloc: Global, index: &Index) {
+    for part in &PARTS {
+        expect_part(rt, alloc, index, *part);
     }
-    expect_part(rt, alloc, index, "green", (5, 100), &[], 0);
 }
 
 #[test]
 fn a_span_has_a_part_of_a_list(rt: HostRuntime) {
     let alloc = rt.alloc();
-    let rows = [
-        (9, Some("red")),
-        (3, Some("red red")),
-        (9, None),
-        (9, Some("red")),
-    ];
-    expect_parts_of_red(&rt, alloc, &committed(&rt, alloc, &rows));
-    expect_parts_of_red(&rt, alloc, &loaded(&rt, alloc, &rows));
+    expect_parts(&rt, alloc, &committed(&rt, alloc, &REDS));
+    expect_parts(&rt, alloc, &loaded(&rt, alloc, &REDS));
 }
 
 const DIGITS: &[u8; 36] = b"0123456789abcdefghijklmnopqrstuvwxyz";
@@ -278,14 +292,14 @@ fn expect_refusal(
 ) {
     assert!(rt; is_short(Some(text)));
     let refusal = index.prepare(alloc, DocId(7), Some(text)).err();
-    assert_eq!(rt; refusal, wanted);
+    expect_same(rt, refusal, wanted);
 }
 
 /// So many words have room in an index; the last of them is this.
 fn fill(rt: &impl Abort, alloc: Global, index: &mut Index, count: u32, last: &str) {
     let text = distinct_words(rt, alloc, count);
     commit(rt, alloc, index, DocId(7), time_at(0), Some(text.as_str()));
-    expect_list(rt, alloc, index, last, &[posting(7, 10, NOW, 1)]);
+    expect_word(rt, alloc, index, last, &[(7, 10, NOW, 1)]);
 }
 
 #[test]

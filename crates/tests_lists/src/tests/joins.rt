@@ -1,6 +1,7 @@
 //! The shortest list of the same rows.
 ghost use Rattle.lists_postings.specs.Lists.{IsList};
 
+use crate::tests::given::expect_same;
 use base_types::{DocId, NOW, Posting, Span};
 use lists_postings::{coalesce, merge_distinct};
 use std::alloc::Global;
@@ -42,18 +43,17 @@ const JOINED: [(&[(u64, u64, u32)], &[(u64, u64, u32)]); 4] = [
 fn expect_joined(
     rt: &impl Abort,
     alloc: Global,
-    parts: &[(u64, u64, u32)],
-    joined: &[(u64, u64, u32)],
+    (parts, joined): (&[(u64, u64, u32)], &[(u64, u64, u32)]),
 ) {
     let list = listed(rt, alloc, parts);
     let wanted = listed(rt, alloc, joined);
     let found = coalesce(alloc, &list).expect(rt, "memory");
-    assert_eq!(rt; found, wanted);
+    expect_same(rt, found.as_slice(), wanted.as_slice());
 }
 
 #[test]
 fn postings_of_one_frequency_that_touch_become_one(rt: HostRuntime) {
-    for (parts, joined) in &JOINED {
-        expect_joined(&rt, rt.alloc(), parts, joined);
+    for row in &JOINED {
+        expect_joined(&rt, rt.alloc(), *row);
     }
 }

@@ -1,4 +1,5 @@
 //! What a list shows at a time and over a span, and lists that are merged.
+use crate::tests::given::expect_same;
 use base_types::{DocId, NOW, Posting, Span, Time};
 use lists_postings::{MergeError, as_of, clip, merge_distinct, overlap};
 use std::alloc::AllocError;
@@ -15,8 +16,7 @@ fn posting(rt: &impl Abort, doc: u32, from: u64, to: u64) -> Posting {
 
 /// A list is this one.
 fn expect_list(rt: &impl Abort, found: Result<Vec<Posting>, AllocError>, wanted: &[Posting]) {
-    let found = found.expect(rt, "memory");
-    assert_eq!(rt; found.as_slice(), wanted);
+    expect_same(rt, found.expect(rt, "memory").as_slice(), wanted);
 }
 
 #[test]
@@ -37,8 +37,7 @@ fn a_span_holds_its_start_and_not_its_end(rt: HostRuntime) {
 
 /// A union is this list.
 fn expect_union(rt: &impl Abort, union: Result<Vec<Posting>, MergeError>, wanted: &[Posting]) {
-    let union = union.expect(rt, "a union");
-    assert_eq!(rt; union.as_slice(), wanted);
+    expect_same(rt, union.expect(rt, "a union").as_slice(), wanted);
 }
 
 #[test]
@@ -51,5 +50,5 @@ fn a_union_has_each_posting_once_and_no_overlap(rt: HostRuntime) {
     expect_union(&rt, union, &[one, second]);
     expect_union(&rt, merge_distinct(alloc, &[one], &[one]), &[one]);
     let refused = merge_distinct(alloc, &[one], &[other]).err();
-    assert_eq!(rt; refused, Some(MergeError::Clash { one, other }));
+    expect_same(&rt, refused, Some(MergeError::Clash { one, other }));
 }

@@ -1,6 +1,7 @@
 //! Lists that are kept up while documents change.
 ghost use Rattle.lists_tails.specs.Weights.{AreWeights};
 
+use crate::tests::given::{Row, expect_list, expect_same, expect_same_in};
 use base_types::{DocId, NOW, Posting, Span, Time, WordId};
 use lists_tails::{Tail, Tails, Turn, Weight};
 use std::alloc::Global;
@@ -38,27 +39,14 @@ fn passed(rt: &impl Abort, alloc: Global, word: WordId, turns: &[(u64, u32)]) ->
     tails
 }
 
-/// The word's list has these postings: documents, starts, ends and frequencies.
-fn expect_list(
-    rt: &impl Abort,
-    alloc: Global,
-    tails: &Tails,
-    word: WordId,
-    wanted: &[(u32, u64, u64, u32)],
-) {
+/// The word's list has these postings.
+fn expect_tail(rt: &impl Abort, alloc: Global, tails: &Tails, word: WordId, wanted: &[Row]) {
     let list = tails.to_list(alloc, word).expect(rt, "memory");
-    assert_eq!(rt; list.len(), wanted.len());
-    for (posting, (doc, from, to, tf)) in list.iter().zip(wanted) {
-        assert_eq!(rt; posting.doc.0, *doc);
-        assert_eq!(rt; posting.span.from, *from);
-        assert_eq!(rt; posting.span.to, *to);
-        assert_eq!(rt; posting.tf, *tf);
-    }
+    expect_list(rt, alloc, word, &list, wanted);
 }
 
-/// How often document 7 has the word from which times on, and the word's list: documents, starts, ends and
-/// frequencies.
-const TURNS: [(&[(u64, u32)], &[(u32, u64, u64, u32)]); 3] = [
+/// How often document 7 has the word from which times on, and the word's list.
+const TURNS: [(&[(u64, u32)], &[Row]); 3] = [
     // three versions of one frequency
     (&[(10, 1), (20, 1), (30, 1)], &[(7, 10, NOW, 1)]),
     // a gap
@@ -73,13 +61,22 @@ const TURNS: [(&[(u64, u32)], &[(u32, u64, u64, u32)]); 3] = [
     ),
 ];
 
+/// After these turns of document 7 the word's list is this.
+fn expect_turned(
+    rt: &impl Abort,
+    alloc: Global,
+    word: WordId,
+    (turns, wanted): (&[(u64, u32)], &[Row]),
+) {
+    let tails = passed(rt, alloc, word, turns);
+    expect_tail(rt, alloc, &tails, word, wanted);
+}
+
 #[test]
 fn one_document_turns(rt: HostRuntime) {
-    let alloc = rt.alloc();
     let word = WordId::new(3).expect(&rt, "a word");
-    for (turns, wanted) in &TURNS {
-        let tails = passed(&rt, alloc, word, turns);
-        expect_list(&rt, alloc, &tails, word, wanted);
+    for row in &TURNS {
+        expect_turned(&rt, rt.alloc(), word, *row);
     }
 }
 
@@ -90,7 +87,7 @@ fn a_posting_that_would_be_empty_is_dropped(rt: HostRuntime) {
     let mut tails = passed(&rt, alloc, word, &[(0, 1)]);
     let once = weights(&rt, alloc, word, 1);
     turn(&rt, &mut tails, 7, 0, &once, &[]);
-    assert_eq!(rt; tails.len(word), 0);
+    expect_same(&rt, tails.len(word), 0);
 }
 
 #[test]
@@ -106,8 +103,8 @@ fn documents_turn_at_one_time(rt: HostRuntime) {
     // document 1 loses one of its words
     turn(&rt, &mut tails, 1, 20, &both, &red_alone);
     let wanted = [(1, 10, 20, 2), (3, 10, NOW, 2)];
-    expect_list(&rt, alloc, &tails, blue, &wanted);
-    assert_eq!(rt; tails.len(red), 2);
+    expect_tail(&rt, alloc, &tails, blue, &wanted);
+    expect_same(&rt, tails.len(red), 2);
 }
 
 #[test]
@@ -139,7 +136,7 @@ fn turns_are_gathered(rt: HostRuntime) {
     .expect(&rt, "memory");
     let tails = Tails::gather(alloc, &mut turns).expect(&rt, "memory");
     let wanted = [(1, 20, NOW, 4), (2, 10, 30, 1)];
-    expect_list(&rt, alloc, &tails, word, &wanted);
+    expect_tail(&rt, alloc, &tails, word, &wanted);
 }
 
 /// The tails after each of that many documents, one after another and in reverse, has the word.
@@ -167,7 +164,7 @@ fn expect_rows_in(
 ) {
     let span = Span::new(from, to).expect(rt, "a span");
     let found = tails.rows_in(alloc, word, span).expect(rt, "memory");
-    assert_eq!(rt; found.len(), rows, "from {from} to {to}");
+    expect_same_in(rt, (from, to), found.len(), rows);
 }
 
 #[test]
@@ -175,13 +172,13 @@ fn a_long_tail_stands_in_blocks(rt: HostRuntime) {
     let alloc = rt.alloc();
     let word = WordId::new(2).expect(&rt, "a word");
     let tails = many(&rt, alloc, word, 3000);
-    assert_eq!(rt; tails.len(word), 3000);
+    expect_same(&rt, tails.len(word), 3000);
     expect_rows_in(&rt, alloc, &tails, word, (5, 10), 0);
     expect_rows_in(&rt, alloc, &tails, word, (5, 11), 3000);
     let around = Span::new(5, 11).expect(&rt, "over the first");
     let rows = tails.rows_in(alloc, word, around).expect(&rt, "memory");
     for (i, row) in rows.iter().enumerate() {
-        assert_eq!(rt; row.doc.0 as usize, i);
+        expect_same(&rt, row.doc.0 as usize, i);
     }
 }
 
@@ -198,7 +195,7 @@ fn a_tail_that_is_filled_in_order_stands_in_blocks(rt: HostRuntime) {
     let later = Time::new(20).expect(&rt, "20");
     // no room is asked for where no word is gained
     tails.turn(DocId(700), later, &once, &[]);
-    assert_eq!(rt; tails.len(word), 1500);
+    expect_same(&rt, tails.len(word), 1500);
     expect_rows_in(&rt, alloc, &tails, word, (20, NOW), 1499);
 }
 

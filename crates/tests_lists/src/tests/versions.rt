@@ -1,4 +1,5 @@
 //! Which version is valid at a time, and what may come next.
+use crate::tests::given::{expect_same, expect_same_in};
 use base_types::{DocId, NOW, Span, TextPlace, Time};
 use lists_postings::Life;
 use lists_versions::{Directory, VersionRefusal};
@@ -42,24 +43,32 @@ fn changed(rt: &impl Abort, alloc: Global, changes: &[(u32, u64, Option<u32>)]) 
     let mut directory = Directory::new(alloc).expect(rt, "memory");
     for (doc, at, bytes) in changes {
         let allowed = change(rt, &mut directory, DocId(*doc), time(rt, *at), *bytes);
-        assert_eq!(rt; allowed, Ok(()), "at {at}");
+        expect_same_in(rt, *at, allowed, Ok(()));
     }
     directory
+}
+
+/// How many bytes the text at a place has.
+fn bytes_of(place: Option<TextPlace>) -> Option<u32> {
+    match place {
+        Some(text) => Some(text.bytes),
+        None => None,
+    }
 }
 
 /// Document 7 has a text of so many bytes at that time, or none.
 fn expect_place(rt: &impl Abort, directory: &Directory, at: u64, bytes: Option<u32>) {
     let time = time(rt, at);
     let place = directory.place(DocId(7), time);
-    assert_eq!(rt; place.map(|text| text.bytes), bytes, "at {at}");
+    expect_same_in(rt, at, bytes_of(place), bytes);
     let alive = directory.alive_at(DocId(7), time);
-    assert_eq!(rt; alive, bytes.is_some(), "at {at}");
+    expect_same_in(rt, at, alive, bytes.is_some());
 }
 
 /// These documents are alive at that time.
 fn expect_alive(rt: &impl Abort, alloc: Global, directory: &Directory, at: u64, docs: &[DocId]) {
     let alive = directory.alive(alloc, time(rt, at)).expect(rt, "memory");
-    assert_eq!(rt; alive.as_slice(), docs, "at {at}");
+    expect_same_in(rt, at, alive.as_slice(), docs);
 }
 
 /// Changes of two documents, the last one at 60.
@@ -99,12 +108,12 @@ fn a_version_is_valid_from_its_time_until_the_next_ones(rt: HostRuntime) {
 
 #[test]
 fn a_directory_counts_its_changes_and_documents(rt: HostRuntime) {
-    assert_eq!(rt; changed(&rt, rt.alloc(), &[]).last(), None);
+    expect_same(&rt, changed(&rt, rt.alloc(), &[]).last(), None);
     let directory = changed(&rt, rt.alloc(), &CHANGES);
-    assert_eq!(rt; directory.last(), Some(time(&rt, 60)));
-    assert_eq!(rt; directory.len(), 6);
-    assert_eq!(rt; directory.documents(), 2);
-    assert_eq!(rt; directory.changes().len(), 6);
+    expect_same(&rt, directory.last(), Some(time(&rt, 60)));
+    expect_same(&rt, directory.len(), 6);
+    expect_same(&rt, directory.documents(), 2);
+    expect_same(&rt, directory.changes().len(), 6);
 }
 
 /// Changes in turn are answered so.
@@ -115,7 +124,7 @@ fn expect_answers(
 ) {
     for (doc, at, bytes, wanted) in rows {
         let allowed = change(rt, directory, DocId(*doc), time(rt, *at), *bytes);
-        assert_eq!(rt; allowed, *wanted, "{doc} at {at}");
+        expect_same_in(rt, (*doc, *at), allowed, *wanted);
     }
 }
 
@@ -159,14 +168,14 @@ const LIVES: [((u64, u64), &[(u32, u64, u64)]); 7] = [
     ((0, 10), &[]),
 ];
 
-/// Lives are these, in order.
-fn expect_told(rt: &impl Abort, lives: &[Life], wanted: &[(u32, u64, u64)]) {
-    assert_eq!(rt; lives.len(), wanted.len());
-    for (life, (doc, from, to)) in lives.iter().zip(wanted) {
-        assert_eq!(rt; life.doc.0, *doc);
-        assert_eq!(rt; life.span.from, *from);
-        assert_eq!(rt; life.span.to, *to);
+/// Lives in numbers: documents, starts and ends.
+fn told(rt: &impl Abort, alloc: Global, lives: &[Life]) -> Vec<(u32, u64, u64)> {
+    let mut told = Vec::new(alloc);
+    for life in lives {
+        let row = (life.doc.0, life.span.from, life.span.to);
+        told.push(row).expect(rt, "memory");
     }
+    told
 }
 
 /// Those of document 7 alone.
@@ -186,21 +195,25 @@ fn expect_lives(
     rt: &impl Abort,
     alloc: Global,
     directory: &Directory,
-    (from, to): (u64, u64),
-    wanted: &[(u32, u64, u64)],
+    (ends, wanted): ((u64, u64), &[(u32, u64, u64)]),
 ) {
-    let span = Span::new(from, to).expect(rt, "a span");
+    let span = Span::new(ends.0, ends.1).expect(rt, "a span");
     let lives = directory.lives(alloc, span).expect(rt, "memory");
-    expect_told(rt, &lives, wanted);
+    expect_same_in(rt, ends, told(rt, alloc, &lives).as_slice(), wanted);
     let docs = [DocId(7), DocId(5), DocId(7)];
     let lives = directory.lives_of(alloc, &docs, span).expect(rt, "memory");
-    expect_told(rt, &lives, &of_seven(rt, alloc, wanted));
+    expect_same_in(
+        rt,
+        ends,
+        told(rt, alloc, &lives),
+        of_seven(rt, alloc, wanted),
+    );
 }
 
 #[test]
 fn lives_go_on_over_new_versions_and_end_where_a_document_is_deleted(rt: HostRuntime) {
     let directory = changed(&rt, rt.alloc(), &RETURNING);
-    for (ends, wanted) in &LIVES {
-        expect_lives(&rt, rt.alloc(), &directory, *ends, wanted);
+    for row in &LIVES {
+        expect_lives(&rt, rt.alloc(), &directory, *row);
     }
 }
