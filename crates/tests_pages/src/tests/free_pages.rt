@@ -1,8 +1,9 @@
 //! Pages that are taken and given back, and extents that cannot be live.
+use crate::tests::given::{expect_same, expect_same_in};
 use base_types::Extent;
 use pages_area::{LiveError, Pages, TakeError};
-use std::alloc::{AllocError, Global};
-use std::test::Fail;
+use std::alloc::Global;
+use std::process::Abort;
 
 /// The first pages that takes give, with one extent given back in between.
 fn firsts(alloc: Global) -> Result<[u32; 5], TakeError> {
@@ -21,62 +22,46 @@ fn firsts(alloc: Global) -> Result<[u32; 5], TakeError> {
 
 #[test]
 fn the_lowest_run_that_is_long_enough_is_taken(rt: HostRuntime) {
-    assert_eq!(rt; firsts(rt.alloc()), Ok([0, 1, 3, 0, 0]));
+    expect_same(&rt, firsts(rt.alloc()), Ok([0, 1, 3, 0, 0]));
 }
 
-/// What takes of so many bytes give, one after another.
-fn taken(alloc: Global, takes: &[u64]) -> Result<Vec<Result<(u32, u64), TakeError>>, AllocError> {
-    let mut given = Vec::new(alloc);
-    if let Ok(mut pages) = Pages::from_live(alloc, &[], 0) {
-        for bytes in takes {
-            match pages.take(*bytes) {
-                Ok(extent) => given.push(Ok((extent.first, extent.bytes)))?,
-                Err(error) => given.push(Err(error))?,
-            }
-        }
+/// How many bytes Pages can have.
+const WHOLE: u64 = 1 << 40;
+
+/// How many bytes are asked for in turn, and what each take gives: a first page and bytes, or why there are none.
+const TAKES: [(u64, Result<(u32, u64), TakeError>); 6] = [
+    (WHOLE + 1, Err(TakeError::Full)),
+    (1, Ok((0, 1))),
+    (WHOLE, Err(TakeError::Full)),
+    (WHOLE - 4096, Ok((1, WHOLE - 4096))),
+    (1, Err(TakeError::Full)),
+    (0, Ok((0, 0))),
+];
+
+/// What a take of so many bytes gives.
+fn taken(pages: &mut Pages, bytes: u64) -> Result<(u32, u64), TakeError> {
+    match pages.take(bytes) {
+        Ok(extent) => Ok((extent.first, extent.bytes)),
+        Err(error) => Err(error),
     }
-    Ok(given)
 }
 
 #[test]
-fn pages_end_at_2_to_the_28(rt: HostRuntime) -> Result<(), Fail> {
-    let whole = 1u64 << 40;
-    let given = taken(
-        rt.alloc(),
-        &[
-            whole.saturating_add(1),
-            1,
-            whole,
-            whole.saturating_sub(4096),
-            1,
-            0,
-        ],
-    )?;
-    let wanted = [
-        Err(TakeError::Full),
-        Ok((0, 1)),
-        Err(TakeError::Full),
-        Ok((1, whole.saturating_sub(4096))),
-        Err(TakeError::Full),
-        Ok((0, 0)),
-    ];
-    assert_eq!(rt; given.as_slice(), wanted.as_slice());
-    Ok(())
+fn pages_end_at_2_to_the_28(rt: HostRuntime) {
+    let mut pages = Pages::from_live(rt.alloc(), &[], 0).expect(&rt, "memory");
+    for (bytes, wanted) in &TAKES {
+        expect_same_in(&rt, *bytes, taken(&mut pages, *bytes), *wanted);
+    }
 }
 
 /// Why these extents cannot be live in Pages of so many bytes.
-fn refusal(
-    alloc: Global,
-    rows: &[(u32, u64)],
-    reach: u64,
-) -> Result<Option<LiveError>, AllocError> {
+fn refusal(rt: &impl Abort, alloc: Global, rows: &[(u32, u64)], reach: u64) -> Option<LiveError> {
     let mut live = Vec::new(alloc);
     for (first, bytes) in rows {
-        if let Some(extent) = Extent::new(*first, *bytes) {
-            live.push(extent)?;
-        }
+        let extent = Extent::new(*first, *bytes).expect(rt, "an extent");
+        live.push(extent).expect(rt, "memory");
     }
-    Ok(Pages::from_live(alloc, &live, reach).err())
+    Pages::from_live(alloc, &live, reach).err()
 }
 
 /// Three extents, how many bytes Pages has, and why they cannot be live.
@@ -124,10 +109,18 @@ const LIVE: [([(u32, u64); 3], u64, Option<LiveError>); 9] = [
     ),
 ];
 
+/// These extents can be live in Pages of so many bytes, or cannot for this reason.
+fn expect_live(
+    rt: &impl Abort,
+    alloc: Global,
+    (rows, reach, why): ([(u32, u64); 3], u64, Option<LiveError>),
+) {
+    expect_same_in(rt, rows, refusal(rt, alloc, &rows, reach), why);
+}
+
 #[test]
-fn the_first_extent_that_fails_is_named(rt: HostRuntime) -> Result<(), Fail> {
-    for (rows, reach, why) in LIVE {
-        assert_eq!(rt; refusal(rt.alloc(), &rows, reach)?, why);
+fn the_first_extent_that_fails_is_named(rt: HostRuntime) {
+    for row in &LIVE {
+        expect_live(&rt, rt.alloc(), *row);
     }
-    Ok(())
 }

@@ -1,6 +1,7 @@
 //! What is read through the cache, and which pages it keeps.
 ghost use Rattle.std.specs.Prelude.{length};
 
+use crate::tests::given::{expect_same, expect_same_in};
 use base_types::Extent;
 use machine_mem::{CallKind, Fault, MemMachine};
 use machine_model::{Area, Disk, Image};
@@ -19,12 +20,15 @@ fn machine_with(rt: &impl Abort, alloc: Global, pages: Vec<u8>, faults: &[Fault]
     MemMachine::new(alloc, Vec::new(alloc), image, faults).expect(rt, "memory")
 }
 
-/// Pages that hold 18 bytes of 7, 22 of 8 and 18 of 9 in the pages 0, 1 and 2.
+/// Where runs of one byte end in Pages, and the byte: 18 of 7, 22 of 8 and 18 of 9 stand in the pages 0, 1 and 2.
+const RUNS: [(usize, u8); 5] = [(18, 7), (4096, 0), (4118, 8), (8192, 0), (8210, 9)];
+
+/// Pages that hold these.
 fn three_places(rt: &impl Abort, alloc: Global) -> Vec<u8> {
-    let mut pages = vec![in alloc; 0; 8210].expect(rt, "memory");
-    pages[..18].fill(7);
-    pages[4096..4118].fill(8);
-    pages[8192..].fill(9);
+    let mut pages = Vec::new(alloc);
+    for (end, byte) in &RUNS {
+        pages.resize(*end, *byte).expect(rt, "memory");
+    }
     pages
 }
 
@@ -45,9 +49,11 @@ fn ask(
     let extent = Extent::new(first, bytes).expect(rt, "an extent");
     let reach = machine.length(Area::Pages).expect(rt, "a length");
     assert!(rt; u64::from(first) * 4096 + bytes <= reach);
-    let mut buf = vec![in alloc; 0; bytes as usize]?;
-    cache.read(machine, extent, &mut buf)?;
-    Ok(buf)
+    let mut buf = vec![in alloc; 0; bytes as usize].expect(rt, "memory");
+    match cache.read(machine, extent, &mut buf) {
+        Ok(()) => Ok(buf),
+        Err(error) => Err(error),
+    }
 }
 
 /// Asks for so many bytes from a page on, and of Pages so many were read by then.
@@ -59,12 +65,21 @@ fn expect_read(
     (first, bytes, read): (u32, u64, u64),
 ) -> Vec<u8> {
     let given = ask(rt, alloc, cache, machine, first, bytes).expect(rt, "it is read");
-    assert_eq!(rt;
-        machine.read_of(Area::Pages),
-        read,
-        "{bytes} bytes from page {first} on"
-    );
+    expect_same_in(rt, (first, bytes), machine.read_of(Area::Pages), read);
     given
+}
+
+/// The same for one after another.
+fn expect_reads(
+    rt: &impl Abort,
+    alloc: Global,
+    cache: &mut PageCache,
+    machine: &mut MemMachine,
+    asked: &[(u32, u64, u64)],
+) {
+    for row in asked {
+        let _ = expect_read(rt, alloc, cache, machine, *row);
+    }
 }
 
 /// First pages and bytes that are asked for in turn, with the bytes that were read of Pages by then.
@@ -95,11 +110,8 @@ fn expect_asked(
     let (first, bytes, _) = asked;
     let given = expect_read(rt, alloc, cache, machine, asked);
     let start = first as usize * 4096;
-    let wanted = held.iter().skip(start).take(bytes as usize);
-    assert!(rt;
-        given.iter().eq(wanted),
-        "{bytes} bytes from page {first} on"
-    );
+    let wanted = held.get(start..start.saturating_add(bytes as usize));
+    expect_same_in(rt, (first, bytes), Some(given.as_slice()), wanted);
 }
 
 #[test]
@@ -111,7 +123,7 @@ fn what_is_asked_for_again_is_read_once(rt: HostRuntime) {
     for asked in &ASKED {
         expect_asked(&rt, alloc, &mut cache, &mut machine, *asked, &held);
     }
-    assert_eq!(rt; machine.read_of(Area::Journal), 0);
+    expect_same(&rt, machine.read_of(Area::Journal), 0);
 }
 
 #[test]
@@ -119,14 +131,12 @@ fn pages_that_are_given_back_are_read_again(rt: HostRuntime) {
     let alloc = rt.alloc();
     let mut machine = machine_failing(&rt, alloc, &[]);
     let mut cache = PageCache::new(alloc).expect(&rt, "memory");
-    for (first, read) in [(0, 18), (1, 36), (2, 54)] {
-        let _ = expect_read(&rt, alloc, &mut cache, &mut machine, (first, 18, read));
-    }
+    let early = [(0, 18, 18), (1, 18, 36), (2, 18, 54)];
+    expect_reads(&rt, alloc, &mut cache, &mut machine, &early);
     cache.give_back(Extent::new(1, 22).expect(&rt, "an extent"));
-    assert_eq!(rt; cache.len(), 2);
-    for (first, read) in [(2, 54), (1, 72), (0, 72)] {
-        let _ = expect_read(&rt, alloc, &mut cache, &mut machine, (first, 18, read));
-    }
+    expect_same(&rt, cache.len(), 2);
+    let late = [(2, 18, 54), (1, 18, 72), (0, 18, 72)];
+    expect_reads(&rt, alloc, &mut cache, &mut machine, &late);
 }
 
 #[test]
@@ -140,11 +150,11 @@ fn a_page_that_was_not_read_is_not_kept(rt: HostRuntime) {
     let mut machine = machine_failing(&rt, alloc, &[fault]);
     let mut cache = PageCache::new(alloc).expect(&rt, "memory");
     let failed = ask(&rt, alloc, &mut cache, &mut machine, 0, 8210);
-    assert_eq!(rt; failed, Err(PageError::Failed));
-    assert_eq!(rt; cache.len(), 1);
+    expect_same(&rt, failed, Err(PageError::Failed));
+    expect_same(&rt, cache.len(), 1);
     let again = expect_read(&rt, alloc, &mut cache, &mut machine, (0, 8210, 8210));
     let wanted = three_places(&rt, alloc);
-    assert_eq!(rt; again.as_slice(), wanted.as_slice());
+    expect_same(&rt, again.as_slice(), wanted.as_slice());
 }
 
 #[test]
@@ -158,8 +168,13 @@ fn the_page_that_was_used_longest_ago_leaves(rt: HostRuntime) {
         let _ = expect_read(&rt, alloc, &mut cache, &mut machine, (first, 1, read));
     }
     // Page 0 is used once more, so page 1 leaves for page 1,024.
-    for (first, read) in [(0, 1024), (1024, 1025), (0, 1025), (2, 1025), (1, 1026)] {
-        let _ = expect_read(&rt, alloc, &mut cache, &mut machine, (first, 1, read));
-    }
-    assert_eq!(rt; cache.len(), 1024);
+    let asked = [
+        (0, 1, 1024),
+        (1024, 1, 1025),
+        (0, 1, 1025),
+        (2, 1, 1025),
+        (1, 1, 1026),
+    ];
+    expect_reads(&rt, alloc, &mut cache, &mut machine, &asked);
+    expect_same(&rt, cache.len(), 1024);
 }

@@ -1,28 +1,29 @@
 //! Lists as bytes in both layouts, and bytes that spell no list.
 ghost use Rattle.lists_postings.specs.Lists.{IsList};
 
+use crate::tests::given::{bytes_of, expect_same, expect_same_in, listed, put_flat, told};
 use base_types::Posting;
 use pages_codec::{Frames, ListError, decode_blocks, decode_list, encode_blocks, encode_list};
 use std::alloc::Global;
 use std::process::Abort;
 
-/// The place that a reading names.
-fn place(read: Result<Vec<Posting>, ListError>) -> Option<u64> {
-    match read {
-        Err(ListError::Form { at }) => Some(at),
+/// The place that an error names.
+fn named_by(error: Option<ListError>) -> Option<u64> {
+    match error {
+        Some(ListError::Form { at }) => Some(at),
         _ => None,
     }
+}
+
+/// The place that a reading names.
+fn place(read: Result<Vec<Posting>, ListError>) -> Option<u64> {
+    named_by(read.err())
 }
 
 /// Document 1 from 10 to 40, and document 2 from 20 to 30.
 const FIRST: &str = "0000000100000001000000000000000a0000000000000028";
 
 const SECOND: &str = "00000002000000010000000000000014000000000000001e";
-
-/// The bytes that hexadecimal digits spell.
-fn bytes_of(rt: &impl Abort, alloc: Global, digits: &str) -> Vec<u8> {
-    hex::decode(alloc, digits).expect(rt, "bytes")
-}
 
 /// The flat bytes of both.
 fn both(rt: &impl Abort, alloc: Global) -> Vec<u8> {
@@ -32,63 +33,45 @@ fn both(rt: &impl Abort, alloc: Global) -> Vec<u8> {
     bytes
 }
 
-/// The list of flat bytes.
-fn listed(rt: &impl Abort, alloc: Global, flat: &[u8]) -> Vec<Posting>
-    ensures { IsList result.items }
-{
-    decode_list(alloc, flat).expect(rt, "a list")
-}
-
 /// A list has these bytes in blocks, which spell it.
 fn expect_blocks(rt: &impl Abort, alloc: Global, flat: &[u8], digits: &str) {
     let list = listed(rt, alloc, flat);
     let again = encode_list(alloc, &list).expect(rt, "memory");
-    assert_eq!(rt; again.as_slice(), flat);
+    expect_same(rt, again.as_slice(), flat);
     let blocks = encode_blocks(alloc, &list).expect(rt, "memory");
-    let wanted = bytes_of(rt, alloc, digits);
-    assert_eq!(rt; blocks.as_slice(), wanted.as_slice());
+    expect_same(
+        rt,
+        blocks.as_slice(),
+        bytes_of(rt, alloc, digits).as_slice(),
+    );
     let again = decode_blocks(alloc, &blocks).expect(rt, "a list");
-    assert_eq!(rt; again.as_slice(), list.as_slice());
-}
-
-/// A list has postings of frequency 1 with these documents, starts and ends.
-fn expect_postings(rt: &impl Abort, list: &[Posting], wanted: &[(u32, u64, u64)]) {
-    assert_eq!(rt; list.len(), wanted.len());
-    for (posting, (doc, from, to)) in list.iter().zip(wanted) {
-        assert_eq!(rt; posting.doc.0, *doc);
-        assert_eq!(rt; posting.tf, 1);
-        assert_eq!(rt; posting.span.from, *from);
-        assert_eq!(rt; posting.span.to, *to);
-    }
+    expect_same(rt, again.as_slice(), list.as_slice());
 }
 
 #[test]
 fn a_list_of_two_postings_in_both_layouts(rt: HostRuntime) {
     let flat = both(&rt, rt.alloc());
     let list = listed(&rt, rt.alloc(), &flat);
-    expect_postings(&rt, &list, &[(1, 10, 40), (2, 20, 30)]);
+    let wanted = [(1, 10, 40, 1), (2, 20, 30, 1)];
+    expect_same(&rt, told(&rt, rt.alloc(), &list).as_slice(), &wanted[..]);
     let digits = "020007000000010000000100000002010a1e0101140a";
     expect_blocks(&rt, rt.alloc(), &flat, digits);
 }
 
 #[test]
 fn a_block_of_one_posting_has_eighteen_bytes(rt: HostRuntime) {
-    for (flat, digits) in [
-        (FIRST, "010003000000010000000100000001010a1e"),
-        (SECOND, "01000300000001000000020000000201140a"),
-    ] {
-        let flat = bytes_of(&rt, rt.alloc(), flat);
-        expect_blocks(&rt, rt.alloc(), &flat, digits);
-    }
+    let first = bytes_of(&rt, rt.alloc(), FIRST);
+    let digits = "010003000000010000000100000001010a1e";
+    expect_blocks(&rt, rt.alloc(), &first, digits);
+    let second = bytes_of(&rt, rt.alloc(), SECOND);
+    let digits = "01000300000001000000020000000201140a";
+    expect_blocks(&rt, rt.alloc(), &second, digits);
 }
 
 #[test]
 fn the_empty_list_has_no_bytes(rt: HostRuntime) {
-    let alloc = rt.alloc();
-    assert_eq!(rt; encode_list(alloc, &[]).expect(&rt, "memory").len(), 0);
-    assert_eq!(rt; encode_blocks(alloc, &[]).expect(&rt, "memory").len(), 0);
-    assert_eq!(rt; decode_list(alloc, &[]).expect(&rt, "a list").len(), 0);
-    assert_eq!(rt; decode_blocks(alloc, &[]).expect(&rt, "a list").len(), 0);
+    expect_blocks(&rt, rt.alloc(), &[], "");
+    expect_same(&rt, listed(&rt, rt.alloc(), &[]).len(), 0);
 }
 
 /// The same bytes with another one at a place.
@@ -117,7 +100,7 @@ const POSTING_FAULTS: [(usize, u8, u64); 5] = [
 fn expect_fault(rt: &impl Abort, alloc: Global, list: &[u8], (at, byte, named): (usize, u8, u64)) {
     let changed = altered(rt, alloc, list, at, byte);
     let read = decode_list(alloc, &changed);
-    assert_eq!(rt; place(read), Some(named), "byte {at} as {byte}");
+    expect_same_in(rt, (at, byte), place(read), Some(named));
 }
 
 #[test]
@@ -132,11 +115,7 @@ fn the_posting_at_fault_is_named(rt: HostRuntime) {
 fn expect_cut_short(rt: &impl Abort, alloc: Global, list: &[u8], bytes: usize, named: u64) {
     let mut short = Vec::from_slice(alloc, list).expect(rt, "memory");
     short.truncate(bytes);
-    assert_eq!(rt;
-        place(decode_list(alloc, &short)),
-        Some(named),
-        "{bytes} bytes"
-    );
+    expect_same_in(rt, bytes, place(decode_list(alloc, &short)), Some(named));
 }
 
 #[test]
@@ -192,25 +171,13 @@ const FAULTS: [(&str, u64); 25] = [
 fn expect_place(rt: &impl Abort, alloc: Global, (digits, at): (&str, u64)) {
     let bytes = bytes_of(rt, alloc, digits);
     let read = decode_blocks(alloc, &bytes);
-    assert_eq!(rt; place(read), Some(at), "{digits}");
+    expect_same_in(rt, digits, place(read), Some(at));
 }
 
 #[test]
 fn the_place_at_fault_in_blocks_is_named(rt: HostRuntime) {
     for fault in &FAULTS {
         expect_place(&rt, rt.alloc(), *fault);
-    }
-}
-
-/// Adds the flat bytes of a posting of frequency 1.
-fn put_flat(rt: &impl Abort, bytes: &mut Vec<u8>, doc: u32, from: u64, to: u64) {
-    for number in [doc, 1] {
-        let spelled = number.to_be_bytes();
-        bytes.extend_from_slice(&spelled).expect(rt, "memory");
-    }
-    for number in [from, to] {
-        let spelled = number.to_be_bytes();
-        bytes.extend_from_slice(&spelled).expect(rt, "memory");
     }
 }
 
@@ -230,9 +197,9 @@ fn expect_size(rt: &impl Abort, alloc: Global, list: &[Posting], bytes: usize)
     requires { IsList list.now }
 {
     let blocks = encode_blocks(alloc, list).expect(rt, "memory");
-    assert_eq!(rt; blocks.len(), bytes);
+    expect_same(rt, blocks.len(), bytes);
     let again = decode_blocks(alloc, &blocks).expect(rt, "a list");
-    assert_eq!(rt; again.as_slice(), list);
+    expect_same(rt, again.as_slice(), list);
 }
 
 /// Numbers of postings, and how many bytes these have in blocks.
@@ -299,10 +266,10 @@ fn place_or_list(rt: &impl Abort, alloc: Global, altered: &[u8]) -> Option<u64> 
     match decode_blocks(alloc, altered) {
         Ok(other) => {
             let again = encode_blocks(alloc, &other).expect(rt, "memory");
-            assert_eq!(rt; again.as_slice(), altered);
+            expect_same(rt, again.as_slice(), altered);
             None
         }
-        Err(error) => Some(place(Err(error)).expect(rt, "a place")),
+        Err(error) => Some(named_by(Some(error)).expect(rt, "a place")),
     }
 }
 
@@ -324,10 +291,9 @@ fn lists_and_places(rt: &impl Abort, alloc: Global, blocks: &[u8], bit: u8) -> (
 #[test]
 fn an_altered_byte_is_refused_or_makes_another_list(rt: HostRuntime) {
     let blocks = three_blocks(&rt, rt.alloc());
-    for (bit, wanted_lists, wanted_places) in &ALTERED {
-        let (lists, places) = lists_and_places(&rt, rt.alloc(), &blocks, *bit);
-        assert_eq!(rt; lists, *wanted_lists);
-        assert_eq!(rt; places, *wanted_places);
+    for (bit, lists, places) in &ALTERED {
+        let found = lists_and_places(&rt, rt.alloc(), &blocks, *bit);
+        expect_same_in(&rt, *bit, found, (*lists, *places));
     }
 }
 
@@ -336,7 +302,7 @@ fn a_block_whose_first_document_is_below_the_one_before_is_refused(rt: HostRunti
     // The first block ends with document 127, and the second one's header, at 526, now says 126.
     let blocks = three_blocks(&rt, rt.alloc());
     let other = altered(&rt, rt.alloc(), &blocks, 536, 126);
-    assert_eq!(rt; place(decode_blocks(rt.alloc(), &other)), Some(526));
+    expect_same(&rt, place(decode_blocks(rt.alloc(), &other)), Some(526));
 }
 
 /// The blocks of 257 postings, opened.
@@ -355,13 +321,10 @@ const HEADS: [(u8, u16, u32, u32, u32); 3] = [
 #[test]
 fn blocks_have_heads(rt: HostRuntime) {
     let frames = opened(&rt, rt.alloc());
-    assert_eq!(rt; frames.heads().len(), 3);
-    for (head, (count, size, top, first, last)) in frames.heads().iter().zip(&HEADS) {
-        assert_eq!(rt; head.count, *count);
-        assert_eq!(rt; head.size, *size);
-        assert_eq!(rt; head.top, *top);
-        assert_eq!(rt; head.first.0, *first);
-        assert_eq!(rt; head.last.0, *last);
+    expect_same(&rt, frames.heads().len(), 3);
+    for (head, row) in frames.heads().iter().zip(&HEADS) {
+        let found = (head.count, head.size, head.top, head.first.0, head.last.0);
+        expect_same(&rt, found, *row);
     }
 }
 
@@ -374,7 +337,7 @@ fn blocks_are_opened_one_by_one(rt: HostRuntime) {
         together.extend_from_slice(&list).expect(&rt, "memory");
     }
     let list = long(&rt, rt.alloc(), 257);
-    assert_eq!(rt; together.as_slice(), list.as_slice());
+    expect_same(&rt, together.as_slice(), list.as_slice());
 }
 
 /// Places in three blocks, a byte put there, the place that the headers name, and the place that the
@@ -391,6 +354,17 @@ const BLOCK_FAULTS: [(usize, u8, Option<u64>, Option<u64>); 6] = [
     (541, 0, None, Some(541)),
 ];
 
+/// The place that the headers of three blocks name, or else that which the second block names.
+fn faults_of(rt: &impl Abort, alloc: Global, blocks: Vec<u8>) -> (Option<u64>, Option<u64>) {
+    match Frames::read(alloc, blocks) {
+        Ok(frames) => {
+            assert!(rt; frames.heads().len() == 3);
+            (None, place(frames.open(alloc, 1)))
+        }
+        Err(error) => (named_by(Some(error)), None),
+    }
+}
+
 /// Three blocks with another byte at a place name a place by their headers, or by the second block.
 fn expect_block_fault(
     rt: &impl Abort,
@@ -399,15 +373,8 @@ fn expect_block_fault(
     (at, byte, header, inner): (usize, u8, Option<u64>, Option<u64>),
 ) {
     let other = altered(rt, alloc, blocks, at, byte);
-    match Frames::read(alloc, other) {
-        Ok(frames) => {
-            assert_eq!(rt; header, None);
-            assert!(rt; frames.heads().len() == 3);
-            assert_eq!(rt; place(frames.open(alloc, 1)), inner);
-        }
-        Err(ListError::Form { at }) => assert_eq!(rt; header, Some(at)),
-        Err(ListError::Memory) => assert!(rt; false),
-    }
+    let found = faults_of(rt, alloc, other);
+    expect_same_in(rt, (at, byte), found, (header, inner));
 }
 
 #[test]

@@ -3,6 +3,7 @@ use super::given::{
     BOTH, FIRST, cuts, docs_of, gather_between, gather_blocks, machine_with, no_sublists, pages_of,
     places_of, posting, store_between, time,
 };
+use crate::tests::given::{expect_same, expect_same_in};
 use base_types::Time;
 use journal_entries::{Layout, Place};
 use machine_mem::MemMachine;
@@ -61,8 +62,13 @@ fn expect_found(
     let gathered = gather_between(
         rt, alloc, sublists, machine, *layout, cuts, places, window,
     ).expect(rt, "they are read");
-    assert_eq!(rt; docs_of(rt, alloc, &gathered).as_slice(), docs);
-    assert_eq!(rt; gathered.read, read);
+    expect_same_in(
+        rt,
+        window,
+        docs_of(rt, alloc, &gathered.list).as_slice(),
+        docs,
+    );
+    expect_same_in(rt, window, gathered.read, read);
 }
 
 /// What is gathered for a window, with none of the pages kept, has these documents and postings, and takes
@@ -81,14 +87,14 @@ fn expect_window(
         Layout::Flat => flat,
     };
     let after = stored.machine.read_of(Area::Pages);
-    assert_eq!(rt; after.saturating_sub(before), bytes);
+    expect_same_in(rt, window, after.saturating_sub(before), bytes);
 }
 
 /// Stores the sublists in a layout, and asks for each window.
 fn expect_windows(rt: &impl Abort, alloc: Global, layout: Layout) {
     let cuts = cuts(rt);
     let mut stored = make_stored(rt, alloc, layout, &cuts);
-    assert_eq!(rt; stored.machine.read_of(Area::Pages), 0);
+    expect_same(rt, stored.machine.read_of(Area::Pages), 0);
     for window in &WINDOWS {
         expect_window(rt, alloc, &mut stored, *window);
     }
@@ -109,15 +115,22 @@ const JOINED: [((u64, u64), &[u32], u64); 4] = [
     ((11, 39), &[1, 2], 9),
 ];
 
+/// What is gathered for each of these windows of the sublists between cuts is theirs.
+fn expect_joined(rt: &impl Abort, alloc: Global, cuts: &[Time]) {
+    let mut stored = make_stored(rt, alloc, Layout::Flat, cuts);
+    let mut sublists = no_sublists(rt, alloc);
+    for row in &JOINED {
+        expect_found(rt, alloc, &mut sublists, &mut stored, *row);
+    }
+}
+
 #[test]
 fn the_lists_of_any_number_of_segments_are_joined(rt: HostRuntime) {
-    let alloc = rt.alloc();
-    let cuts = [10, 15, 20, 25, 30, 35, 38].map(|seconds| time(&rt, seconds));
-    let mut stored = make_stored(&rt, alloc, Layout::Flat, &cuts);
-    let mut sublists = no_sublists(&rt, alloc);
-    for row in &JOINED {
-        expect_found(&rt, alloc, &mut sublists, &mut stored, *row);
+    let mut cuts = Vec::new(rt.alloc());
+    for seconds in [10, 15, 20, 25, 30, 35, 38] {
+        cuts.push(time(&rt, seconds)).expect(&rt, "memory");
     }
+    expect_joined(&rt, rt.alloc(), &cuts);
 }
 
 /// Why the bytes of three places are refused for a window.
@@ -142,7 +155,7 @@ fn expect_refused(
     (page, why): (u32, Why),
 ) {
     let refused = refused(rt, alloc, pieces, window);
-    assert_eq!(rt; refused, Some(FetchError::Damaged(Damage { page, why })));
+    expect_same(rt, refused, Some(FetchError::Damaged(Damage { page, why })));
 }
 
 /// The block of document 2 from 20 to 30.
@@ -197,7 +210,11 @@ fn a_first_segment_without_a_posting_is_told(rt: HostRuntime) {
     let bare = ["", BOTH, FIRST];
     expect_refused(&rt, alloc, &bare, (10, 11), (0, Why::Bare));
     // A later segment may have none.
-    assert_eq!(rt; refused(&rt, alloc, &[FIRST, "", FIRST], (15, 25)), None);
+    expect_same(
+        &rt,
+        refused(&rt, alloc, &[FIRST, "", FIRST], (15, 25)),
+        None,
+    );
 }
 
 /// The first document from 10 to 40 clashes with another posting of it.

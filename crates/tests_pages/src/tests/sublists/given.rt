@@ -7,9 +7,9 @@ ghost use Rattle.pages_area.specs.Taken.{HasTaken};
 ghost use Rattle.pages_area.specs.CacheLaws.{LieIn};
 ghost use Rattle.pages_sublists.specs.Preparing.{extents};
 
+use crate::tests::given::{bytes_of, expect_same, listed, put_flat};
 use base_types::{DocId, Extent, Posting, Span, Time};
 use journal_entries::{Layout, Place};
-use lists_postings::merge_distinct;
 use machine_mem::{Fault, MemMachine};
 use machine_model::{Area, Disk, Failed, Image};
 use pages_sublists::{FetchError, Gathered, Sublists};
@@ -37,9 +37,10 @@ pub(crate) fn two_documents(rt: &impl Abort, alloc: Global) -> Vec<Posting>
 pub(crate) fn documents(rt: &impl Abort, alloc: Global, one: u32, other: u32) -> Vec<Posting>
     ensures { IsList result.items }
 {
-    let first = posting(rt, one, 10, 40);
-    let second = posting(rt, other, 20, 30);
-    merge_distinct(alloc, &[first], &[second]).expect(rt, "a list")
+    let mut bytes = Vec::new(alloc);
+    put_flat(rt, &mut bytes, one, 10, 40);
+    put_flat(rt, &mut bytes, other, 20, 30);
+    listed(rt, alloc, &bytes)
 }
 
 /// So many seconds.
@@ -171,10 +172,10 @@ pub(crate) fn gather_between(
     sublists.gather(alloc, machine, layout, cuts, horizon, places, span)
 }
 
-/// The documents that were gathered, in order.
-pub(crate) fn docs_of(rt: &impl Abort, alloc: Global, gathered: &Gathered) -> Vec<u32> {
+/// The documents of a list, in order.
+pub(crate) fn docs_of(rt: &impl Abort, alloc: Global, list: &[Posting]) -> Vec<u32> {
     let mut docs = Vec::new(alloc);
-    for posting in &gathered.list {
+    for posting in list {
         docs.push(posting.doc.0).expect(rt, "memory");
     }
     docs
@@ -199,11 +200,6 @@ pub(crate) const BOTH: &str = "020007000000010000000100000002010a1e0101140a";
 
 pub(crate) const BOTH_DIGEST: &str =
     "3e9ce0608f1e27488a5d35d6d9ceebc93f2efcc7c2bb9740acf693e348776026";
-
-/// The bytes that hexadecimal digits spell.
-pub(crate) fn bytes_of(rt: &impl Abort, alloc: Global, digits: &str) -> Vec<u8> {
-    hex::decode(alloc, digits).expect(rt, "bytes")
-}
 
 /// Pages that begin with these bytes, one behind the other.
 pub(crate) fn pages_of(rt: &impl Abort, alloc: Global, pieces: &[&str]) -> Vec<u8> {
@@ -234,9 +230,8 @@ pub(crate) fn places_of(rt: &impl Abort, alloc: Global, pieces: &[&str]) -> Vec<
 
 /// Places have these first pages and bytes.
 pub(crate) fn expect_extents(rt: &impl Abort, places: &[Place], wanted: &[(u32, u64)]) {
-    assert_eq!(rt; places.len(), wanted.len());
-    for (place, (first, bytes)) in places.iter().zip(wanted) {
-        assert_eq!(rt; place.extent.first, *first);
-        assert_eq!(rt; place.extent.bytes, *bytes);
+    expect_same(rt, places.len(), wanted.len());
+    for (place, row) in places.iter().zip(wanted) {
+        expect_same(rt, (place.extent.first, place.extent.bytes), *row);
     }
 }

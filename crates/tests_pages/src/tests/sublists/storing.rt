@@ -4,9 +4,10 @@ ghost use Rattle.base_types.specs.declared.extent.Extent.{Extent as PlainExtent}
 ghost use Rattle.pages_area.specs.Taken.{HasTaken};
 
 use super::given::{
-    BOTH, BOTH_DIGEST, FIRST, FIRST_DIGEST, bytes_of, expect_extents, gather_blocks, machine_with,
+    BOTH, BOTH_DIGEST, FIRST, FIRST_DIGEST, expect_extents, gather_blocks, machine_with,
     no_sublists, pages_of, read_pages, store_all, time, two_documents,
 };
+use crate::tests::given::{bytes_of, expect_same};
 use base_types::Extent;
 use journal_entries::{Layout, Place};
 use machine_mem::{CallKind, Fault, MemMachine};
@@ -26,14 +27,21 @@ fn expect_pages(
 ) {
     let pages = read_pages(rt, alloc, machine);
     let wanted = pages_of(rt, alloc, pieces);
-    assert_eq!(rt; pages.as_slice(), wanted.as_slice());
-    assert_eq!(rt; pages.len(), bytes);
+    expect_same(rt, pages.as_slice(), wanted.as_slice());
+    expect_same(rt, pages.len(), bytes);
 }
 
 /// A place has this digest.
 fn expect_digest(rt: &impl Abort, alloc: Global, place: &Place, digits: &str) {
     let wanted = bytes_of(rt, alloc, digits);
-    assert_eq!(rt; place.digest.as_slice(), wanted.as_slice());
+    expect_same(rt, place.digest.as_slice(), wanted.as_slice());
+}
+
+/// Places have these digests.
+fn expect_digests(rt: &impl Abort, alloc: Global, places: &[Place], digests: &[&str]) {
+    for (place, digest) in places.iter().zip(digests) {
+        expect_digest(rt, alloc, place, digest);
+    }
 }
 
 #[test]
@@ -44,10 +52,12 @@ fn the_sublists_of_two_documents_lie_in_three_pages(rt: HostRuntime) {
     let pieces = [FIRST, BOTH, FIRST];
     expect_pages(&rt, alloc, &mut machine, &pieces, 2 * 4096 + 18);
     expect_extents(&rt, &places, &[(0, 18), (1, 22), (2, 18)]);
-    let digests = [FIRST_DIGEST, BOTH_DIGEST, FIRST_DIGEST];
-    for (place, digest) in places.iter().zip(&digests) {
-        expect_digest(&rt, alloc, place, digest);
-    }
+    expect_digests(
+        &rt,
+        alloc,
+        &places,
+        &[FIRST_DIGEST, BOTH_DIGEST, FIRST_DIGEST],
+    );
 }
 
 /// Where such a call fails, that is told.
@@ -59,7 +69,7 @@ fn expect_failed(rt: &impl Abort, alloc: Global, call: CallKind, nth: u64) {
     };
     let mut machine = machine_with(rt, alloc, &[], &[fault]);
     let stored = store_all(rt, alloc, &mut machine, Layout::Blocks);
-    assert_eq!(rt; stored.err(), Some(Failed));
+    expect_same(rt, stored.err(), Some(Failed));
 }
 
 #[test]
@@ -68,19 +78,24 @@ fn a_call_of_the_disk_that_fails_is_told(rt: HostRuntime) {
     expect_failed(&rt, rt.alloc(), CallKind::Sync, 1);
 }
 
+/// Nothing is gathered from these places, since a read fails.
+fn expect_read_failed(rt: &impl Abort, alloc: Global, machine: &mut MemMachine, places: &[Place]) {
+    let mut sublists = no_sublists(rt, alloc);
+    let gathered = gather_blocks(rt, alloc, &mut sublists, machine, places, (15, 35));
+    expect_same(rt, gathered.err(), Some(FetchError::Failed));
+}
+
 #[test]
 fn a_read_that_fails_is_told(rt: HostRuntime) {
-    let alloc = rt.alloc();
     let fault = Fault {
         call: CallKind::Read,
         nth: 2,
         landed: 0,
     };
-    let mut machine = machine_with(&rt, alloc, &[], &[fault]);
-    let places = store_all(&rt, alloc, &mut machine, Layout::Blocks).expect(&rt, "written");
-    let mut sublists = no_sublists(&rt, alloc);
-    let gathered = gather_blocks(&rt, alloc, &mut sublists, &mut machine, &places, (15, 35));
-    assert_eq!(rt; gathered.err(), Some(FetchError::Failed));
+    let mut machine = machine_with(&rt, rt.alloc(), &[], &[fault]);
+    let stored = store_all(&rt, rt.alloc(), &mut machine, Layout::Blocks);
+    let places = stored.expect(&rt, "written");
+    expect_read_failed(&rt, rt.alloc(), &mut machine, &places);
 }
 
 /// A store with one free page, the last.
@@ -101,12 +116,12 @@ fn expect_one_prepared(rt: &impl Abort, alloc: Global, sublists: &mut Sublists, 
     match sublists.prepare(alloc, Layout::Blocks, &list, &cuts, horizon) {
         Ok(_) => assert!(rt; false, "two pages are free"),
         Err(error) => {
-            assert_eq!(rt; error, TakeError::Full);
+            expect_same(rt, error, TakeError::Full);
             let prepared = sublists
                 .prepare(alloc, Layout::Blocks, &list, &cuts[..1], horizon)
                 .expect(rt, "a page is free");
             let place = prepared.places().first().expect(rt, "a place");
-            assert_eq!(rt; place.extent.first, page);
+            expect_same(rt, place.extent.first, page);
         }
     }
 }
@@ -120,8 +135,6 @@ fn no_page_stays_taken_where_one_segment_finds_none(rt: HostRuntime) {
 #[test]
 fn an_extent_that_is_live_twice_is_refused(rt: HostRuntime) {
     let twice = Extent::new(0, 1).expect(&rt, "an extent");
-    assert_eq!(rt;
-        Sublists::from_live(rt.alloc(), &[twice, twice], 1).err(),
-        Some(LiveError::Clash { index: 1 })
-    );
+    let refused = Sublists::from_live(rt.alloc(), &[twice, twice], 1).err();
+    expect_same(&rt, refused, Some(LiveError::Clash { index: 1 }));
 }

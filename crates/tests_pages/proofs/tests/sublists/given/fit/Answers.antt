@@ -1,4 +1,4 @@
-use Rattle.std.proofs.Common.{arith, sum_by, ◌+◌, ◌++◌, [], ◌∷◌, List, All, take, ap, sym, subst, ◌∙◌}
+use Rattle.std.proofs.Common.{arith, sum_by, ◌++◌, [], ◌∷◌, List, All, take, ap, sym, subst, ◌∙◌}
 use Rattle.std.proofs.lemmas.List.{take_more}
 use Rattle.std.proofs.lemmas.List.Elements.{All-nil, All-cons, All-append}
 use Rattle.std.proofs.lemmas.List.Sums.{sum_by-append}
