@@ -4,6 +4,7 @@ mod command_lines;
 mod entries;
 mod given;
 mod in_words;
+mod pieces;
 mod plan_entries;
 mod samples;
 mod scripts;

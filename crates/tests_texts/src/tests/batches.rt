@@ -1,60 +1,18 @@
 //! A batch is one item, in whatever pieces it comes and whichever pulls fail.
-ghost use Rattle.std.specs.Prelude.{◌^◌, ◌<◌};
-
 use crate::tests::given::expect_same;
-use crate::tests::in_words::owned;
+use crate::tests::in_words::{at_document, beside, counted, owned};
+use crate::tests::pieces::{Pieces, halting};
 use crate::tests::scripts::in_words;
 use base_commands::{BatchItem, BatchItems, Command, Text};
-use machine_model::{Failed, Source};
 use script_items::{Item, Reader, ScriptError};
 use std::alloc::Global;
 use std::process::Abort;
-
-/// A source that gives its bytes in pieces, and whose every second pull fails.
-#[derive(Drop)]
-struct Halting<'a> {
-    rest: &'a [u8],
-    piece: usize,
-    halts: bool,
-    faults: u64,
-    ghost counted: { faults < 2 ^ 64 },
-}
-
-impl Source for Halting<'_> {
-    ghost use Rattle.std.specs.Prelude.{[], ◌≤◌, ℕ};
-    ghost use Rattle.std.proofs.Common.{arith};
-    ghost use Rattle.machine_model.specs.Pulls.{ArePulls};
-    ghost use Rattle.machine_model.proofs.PullLemmas.{source_laws};
-
-    ghost source_tells = { ⊥ };
-
-    ghost source = { λ s. record { left = []; faults = s.faults } };
-
-    ghost only = { λ x y. x.faults ≤ y.faults };
-
-    ghost pulled = { λ x lefts y. ArePulls (λ (faults : ℕ). []) (λ m n. m ≤ n) x.faults lefts y.faults };
-
-    ghost laws = { source_laws (λ x. x.faults) (λ n. record { left = []; faults = n }) (λ m n. m ≤ n) (λ n. Prim.omega arith) (λ m n k one two. Prim.omega (arith, one, two)) (λ m n one. one) (λ x. Prim.omega (arith, x.counted)) };
-
-    fn pull(&mut self, buf: &mut [u8]) -> Result<usize, Failed> {
-        let halts = self.halts;
-        self.halts = !halts;
-        if halts {
-            self.faults = self.faults.saturating_add(1);
-            return Err(Failed);
-        }
-        let n = self.piece.min(buf.len()).min(self.rest.len());
-        buf[..n].copy_from_slice(&self.rest[..n]);
-        self.rest = &self.rest[n..];
-        Ok(n)
-    }
-}
 
 /// A text in words: a short one whole, or how long it is.
 fn text_in_words(rt: &impl Abort, alloc: Global, text: &Text) -> String {
     match text {
         Text::Bytes(content) => short_in_words(rt, alloc, content.as_slice()),
-        Text::TooLong { bytes } => format!(in alloc; "too long {bytes}").expect(rt, "memory"),
+        Text::TooLong { bytes } => counted(rt, alloc, "too long", *bytes),
     }
 }
 
@@ -68,19 +26,18 @@ fn short_in_words(rt: &impl Abort, alloc: Global, text: &[u8]) -> String {
 fn member_in_words(rt: &impl Abort, alloc: Global, member: &BatchItem) -> String {
     match member {
         BatchItem::Arrive { doc, at, text } => {
+            let front = at_document(rt, alloc, "arrive", *doc, *at);
             let text = text_in_words(rt, alloc, text);
-            format!(in alloc; "arrive {} {} {text}", doc.0, at.seconds()).expect(rt, "memory")
+            beside(rt, alloc, front.as_str(), text.as_str())
         }
-        BatchItem::Delete { doc, at } => {
-            format!(in alloc; "delete {} {}", doc.0, at.seconds()).expect(rt, "memory")
-        }
-        BatchItem::Other => String::from_str(alloc, "other").expect(rt, "memory"),
+        BatchItem::Delete { doc, at } => at_document(rt, alloc, "delete", *doc, *at),
+        BatchItem::Other => owned(rt, alloc, "other"),
     }
 }
 
 /// Items of a batch in words: how many they are, and the first three.
 fn members_in_words(rt: &impl Abort, alloc: Global, members: &[BatchItem]) -> String {
-    let mut line = format!(in alloc; "batch {}", members.len()).expect(rt, "memory");
+    let mut line = counted(rt, alloc, "batch", members.len() as u64);
     for member in members.iter().take(3) {
         line.push_str("; ").expect(rt, "memory");
         let words = member_in_words(rt, alloc, member);
@@ -92,9 +49,7 @@ fn members_in_words(rt: &impl Abort, alloc: Global, members: &[BatchItem]) -> St
 fn batch_in_words(rt: &impl Abort, alloc: Global, batch: &BatchItems) -> String {
     match batch {
         BatchItems::Items(list) => members_in_words(rt, alloc, list.as_slice()),
-        BatchItems::TooLong { bytes } => {
-            format!(in alloc; "batch too long {bytes}").expect(rt, "memory")
-        }
+        BatchItems::TooLong { bytes } => counted(rt, alloc, "batch too long", *bytes),
     }
 }
 
@@ -111,11 +66,11 @@ fn answer_in_words(
 }
 
 /// The next answer of a reader in words.
-fn next_in_words(
+pub(crate) fn next_in_words(
     rt: &impl Abort,
     alloc: Global,
     reader: &mut Reader,
-    source: &mut Halting<'_>,
+    source: &mut Pieces<'_>,
 ) -> String {
     answer_in_words(rt, alloc, &reader.next_item(alloc, source))
 }
@@ -125,7 +80,7 @@ fn next_answer(
     rt: &impl Abort,
     alloc: Global,
     reader: &mut Reader,
-    source: &mut Halting<'_>,
+    source: &mut Pieces<'_>,
 ) -> String {
     for _ in 0..100000 {
         let words = next_in_words(rt, alloc, reader, source);
@@ -139,12 +94,7 @@ fn next_answer(
 /// A reader answers this, call after call, of a script in pieces of that size; where a pull failed,
 /// the call is made again.
 fn expect_answers(rt: &impl Abort, alloc: Global, script: &[u8], piece: usize, want: &[&str]) {
-    let mut source = Halting {
-        rest: script,
-        piece,
-        halts: false,
-        faults: 0,
-    };
+    let mut source = halting(script, piece);
     let mut reader = Reader::new(alloc).expect(rt, "memory");
     for words in want {
         let answer = next_answer(rt, alloc, &mut reader, &mut source);
@@ -223,13 +173,30 @@ const SCRIPTS: [(&str, &[&str]); 16] = [
     ("batch 2\ndelete 1 5\narrive 7 70 x\n", &["broken at 19"]),
 ];
 
+/// A script in pieces of that size has these answers.
+fn expect_script(rt: &impl Abort, alloc: Global, piece: usize, (script, want): (&str, &[&str])) {
+    expect_answers(rt, alloc, script.as_bytes(), piece, want);
+}
+
 #[test]
 fn a_batch_is_one_item_in_any_pieces(rt: HostRuntime) {
     for piece in &PIECES {
-        for (script, want) in &SCRIPTS {
-            expect_answers(&rt, rt.alloc(), script.as_bytes(), *piece, want);
+        for row in &SCRIPTS {
+            expect_script(&rt, rt.alloc(), *piece, *row);
         }
     }
+}
+
+/// The next answer of a reader is this.
+fn expect_next(
+    rt: &impl Abort,
+    alloc: Global,
+    reader: &mut Reader,
+    source: &mut Pieces<'_>,
+    words: &str,
+) {
+    let answer = next_in_words(rt, alloc, reader, source);
+    expect_same(rt, answer.as_str(), words);
 }
 
 /// Calls answer this, one after another, of a script that comes whole in its first pull, while every
@@ -237,23 +204,23 @@ fn a_batch_is_one_item_in_any_pieces(rt: HostRuntime) {
 #[test]
 fn nothing_is_pulled_while_a_batch_is_whole(rt: HostRuntime) {
     let script = b"batch 1\ndelete 1 5\n# a\nbatch 2\ndelete 2 6\n";
-    let mut source = Halting {
-        rest: script,
-        piece: 4096,
-        halts: false,
-        faults: 0,
-    };
+    let mut source = halting(script, 4096);
     let mut reader = Reader::new(rt.alloc()).expect(&rt, "memory");
     for words in ["batch 1; delete 1 5", "failed", "broken at 42"] {
-        let answer = next_in_words(&rt, rt.alloc(), &mut reader, &mut source);
-        expect_same(&rt, answer.as_str(), words);
+        expect_next(&rt, rt.alloc(), &mut reader, &mut source, words);
     }
+}
+
+/// The line of a batch of so many items.
+fn batch_line(rt: &impl Abort, alloc: Global, count: usize) -> Vec<u8> {
+    let mut line = counted(rt, alloc, "batch", count as u64);
+    line.push_str("\n").expect(rt, "memory");
+    line.into_bytes()
 }
 
 /// A batch of texts of these lengths, and `verify` behind it.
 fn batch_of_texts(rt: &impl Abort, alloc: Global, texts: &[usize]) -> Vec<u8> {
-    let line = format!(in alloc; "batch {}\n", texts.len()).expect(rt, "memory");
-    let mut script = line.into_bytes();
+    let mut script = batch_line(rt, alloc, texts.len());
     for text in texts {
         push_text(rt, alloc, &mut script, *text);
     }
@@ -262,14 +229,13 @@ fn batch_of_texts(rt: &impl Abort, alloc: Global, texts: &[usize]) -> Vec<u8> {
 }
 
 fn push_text(rt: &impl Abort, alloc: Global, script: &mut Vec<u8>, text: usize) {
-    let line = format!(in alloc; "arrive 7 10 {text}\n").expect(rt, "memory");
+    let line = counted(rt, alloc, "arrive 7 10", text as u64);
     script
         .extend_from_slice(line.as_bytes())
         .expect(rt, "memory");
-    let bytes = vec![in alloc; b'a'; text].expect(rt, "memory");
-    script
-        .extend_from_slice(bytes.as_slice())
-        .expect(rt, "memory");
+    script.push(b'\n').expect(rt, "memory");
+    let end = script.len().saturating_add(text);
+    script.resize(end, b'a').expect(rt, "memory");
     script.push(b'\n').expect(rt, "memory");
 }
 
@@ -303,8 +269,7 @@ fn texts_of_a_batch_have_together_at_most_16_mib(rt: HostRuntime) {
 
 /// A batch of so many deletions, of which so many are there, and then `verify`.
 fn batch_of_deletions(rt: &impl Abort, alloc: Global, count: usize, there: usize) -> Vec<u8> {
-    let line = format!(in alloc; "batch {count}\n").expect(rt, "memory");
-    let mut script = line.into_bytes();
+    let mut script = batch_line(rt, alloc, count);
     for _ in 0..there {
         script
             .extend_from_slice(b"delete 7 20\n")

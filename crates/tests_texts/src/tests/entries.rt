@@ -41,17 +41,14 @@ fn deleted(entry: &Entry) -> Option<(DocId, Time)> {
 fn eighteen_bytes_spell_an_arrival(rt: HostRuntime) {
     let entry = decode(rt.alloc(), &ARRIVAL).expect(&rt, "an entry");
     let (doc, at, text) = arrived(&entry).expect(&rt, "an arrival");
-    expect_same(&rt, doc.0, 7);
-    expect_same(&rt, at.seconds(), 10);
-    expect_same(&rt, text, "red a");
+    expect_same(&rt, (doc.0, at.seconds(), text), (7, 10, "red a"));
 }
 
 #[test]
 fn a_deletion_has_thirteen_bytes(rt: HostRuntime) {
     let entry = decode(rt.alloc(), &DELETION).expect(&rt, "an entry");
     let (doc, at) = deleted(&entry).expect(&rt, "a deletion");
-    expect_same(&rt, doc.0, 7);
-    expect_same(&rt, at.seconds(), 1_099_511_627_775);
+    expect_same(&rt, (doc.0, at.seconds()), (7, 1_099_511_627_775));
     let spelled = encode_deletion(rt.alloc(), doc, at).expect(&rt, "memory");
     expect_same(&rt, spelled.as_slice(), DELETION.as_slice());
 }

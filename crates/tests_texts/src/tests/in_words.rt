@@ -11,12 +11,12 @@ pub(crate) fn owned(rt: &impl Abort, alloc: Global, word: &str) -> String {
 }
 
 /// One word behind another.
-fn beside(rt: &impl Abort, alloc: Global, front: &str, back: &str) -> String {
+pub(crate) fn beside(rt: &impl Abort, alloc: Global, front: &str, back: &str) -> String {
     format!(in alloc; "{front} {back}").expect(rt, "memory")
 }
 
 /// A number behind a word.
-fn counted(rt: &impl Abort, alloc: Global, front: &str, number: u64) -> String {
+pub(crate) fn counted(rt: &impl Abort, alloc: Global, front: &str, number: u64) -> String {
     format!(in alloc; "{front} {number}").expect(rt, "memory")
 }
 
@@ -26,23 +26,32 @@ fn ratio(rt: &impl Abort, alloc: Global, front: &str, over: u32, under: u32) -> 
 }
 
 /// A command for a document at a time.
-fn at_document(rt: &impl Abort, alloc: Global, name: &str, doc: DocId, at: Time) -> String {
+pub(crate) fn at_document(
+    rt: &impl Abort,
+    alloc: Global,
+    name: &str,
+    doc: DocId,
+    at: Time,
+) -> String {
     let front = counted(rt, alloc, name, u64::from(doc.0));
     counted(rt, alloc, front.as_str(), at.seconds())
 }
 
-fn arrival(rt: &impl Abort, alloc: Global, doc: DocId, at: Time, text: &Text) -> String {
-    let front = at_document(rt, alloc, "arrive", doc, at);
+/// A text, or how long it is where that is too long.
+fn text_in_words(rt: &impl Abort, alloc: Global, text: &Text) -> String {
     match text {
         Text::Bytes(content) => {
             let text = str::from_utf8(content.as_slice()).expect(rt, "a text");
-            beside(rt, alloc, front.as_str(), text)
+            owned(rt, alloc, text)
         }
-        Text::TooLong { bytes } => {
-            let front = beside(rt, alloc, front.as_str(), "too long");
-            counted(rt, alloc, front.as_str(), *bytes)
-        }
+        Text::TooLong { bytes } => counted(rt, alloc, "too long", *bytes),
     }
+}
+
+fn arrival(rt: &impl Abort, alloc: Global, doc: DocId, at: Time, text: &Text) -> String {
+    let front = at_document(rt, alloc, "arrive", doc, at);
+    let text = text_in_words(rt, alloc, text);
+    beside(rt, alloc, front.as_str(), text.as_str())
 }
 
 /// A command for a word with a factor.
@@ -58,7 +67,7 @@ fn of_factor(
 }
 
 /// The kind of a plan.
-fn kind_in_words(rt: &impl Abort, alloc: Global, kind: Kind) -> String {
+pub(crate) fn kind_in_words(rt: &impl Abort, alloc: Global, kind: Kind) -> String {
     match kind {
         Kind::Guarantee => owned(rt, alloc, "guarantee"),
         Kind::Uniform => owned(rt, alloc, "uniform"),

@@ -1,7 +1,7 @@
 //! Stored plans as bytes, and bytes that spell none.
 use super::entries::named;
 use crate::tests::given::{expect_same, expect_same_in};
-use base_commands::Kind;
+use crate::tests::in_words::kind_in_words;
 use journal_entries::{Entry, Layout, Place, PlanEntry, decode, encode_plan};
 use std::alloc::Global;
 use std::process::Abort;
@@ -50,10 +50,9 @@ fn plan_of(rt: &impl Abort, alloc: Global, body: &[u8]) -> Option<PlanEntry> {
 }
 
 /// A place begins with this page, and has so many bytes and a digest with this last byte.
-fn expect_place(rt: &impl Abort, place: &Place, (first, bytes, last): (u32, u64, u8)) {
-    expect_same(rt, place.extent.first, first);
-    expect_same(rt, place.extent.bytes, bytes);
-    expect_same(rt, place.digest[31], last);
+fn expect_place(rt: &impl Abort, place: &Place, wanted: (u32, u64, u8)) {
+    let found = (place.extent.first, place.extent.bytes, place.digest[31]);
+    expect_same(rt, found, wanted);
 }
 
 /// A plan has these places, and is cut at 10, 20 and 30.
@@ -68,11 +67,11 @@ fn expect_segments(rt: &impl Abort, plan: &PlanEntry, places: &[(u32, u64, u8)])
     }
 }
 
-/// The word `v` is planned with this factor up to 40.
-fn expect_head(rt: &impl Abort, plan: &PlanEntry, (over, under): (u32, u32)) {
+/// The word `v` is planned up to 40 by this kind and with this factor.
+fn expect_head(rt: &impl Abort, alloc: Global, plan: &PlanEntry, kind: &str, factor: (u32, u32)) {
     expect_same(rt, plan.word.as_str(), "v");
-    expect_same(rt, plan.fraction.over(), over);
-    expect_same(rt, plan.fraction.under(), under);
+    expect_same(rt, kind_in_words(rt, alloc, plan.kind).as_str(), kind);
+    expect_same(rt, (plan.fraction.over(), plan.fraction.under()), factor);
     expect_same(rt, plan.horizon.seconds(), 40);
 }
 
@@ -81,8 +80,8 @@ fn a_plan_in_blocks_has_a_hundred_and_eighty_one_bytes(rt: HostRuntime) {
     let body = joined(&rt, rt.alloc(), &IN_BLOCKS);
     expect_same(&rt, body.len(), 181);
     let plan = plan_of(&rt, rt.alloc(), &body).expect(&rt, "a plan");
-    assert!(rt; plan.layout == Layout::Blocks && matches!(plan.kind, Kind::Guarantee));
-    expect_head(&rt, &plan, (1, 1));
+    expect_same(&rt, plan.layout, Layout::Blocks);
+    expect_head(&rt, rt.alloc(), &plan, "guarantee", (1, 1));
     let places = [(0, 18, 161), (1, 22, 178), (2, 18, 195)];
     expect_segments(&rt, &plan, &places);
 }
@@ -91,7 +90,7 @@ fn a_plan_in_blocks_has_a_hundred_and_eighty_one_bytes(rt: HostRuntime) {
 fn a_plan_of_an_archive_with_flat_lists_is_read(rt: HostRuntime) {
     let body = joined(&rt, rt.alloc(), &WITH_FLAT_LISTS);
     let plan = plan_of(&rt, rt.alloc(), &body).expect(&rt, "a plan");
-    assert!(rt; plan.layout == Layout::Flat);
+    expect_same(&rt, plan.layout, Layout::Flat);
     let places = [(0, 24, 0x49), (1, 48, 0x18), (2, 24, 0x49)];
     expect_segments(&rt, &plan, &places);
 }
@@ -101,8 +100,7 @@ fn a_plan_since_a_time_has_eight_bytes_more(rt: HostRuntime) {
     let body = joined(&rt, rt.alloc(), &FROM_A_TIME_ON);
     expect_same(&rt, body.len(), 85);
     let plan = plan_of(&rt, rt.alloc(), &body).expect(&rt, "a plan");
-    assert!(rt; matches!(plan.kind, Kind::Since { at } if at.seconds() == 5));
-    expect_head(&rt, &plan, (3, 2));
+    expect_head(&rt, rt.alloc(), &plan, "since 5", (3, 2));
 }
 
 /// Places in the plan in blocks, a byte put there, and the place that is named.

@@ -1,6 +1,6 @@
 //! A whole sample against a table that another program made, and the ends of samples.
 use crate::tests::given::expect_same;
-use crate::tests::in_words::command_in_words;
+use crate::tests::in_words::{command_in_words, owned};
 use base_sample::{MOST_CHANGES, Sample};
 use std::alloc::Global;
 use std::process::Abort;
@@ -67,11 +67,17 @@ const LINES: [&str; 44] = [
     "verify",
 ];
 
+/// The next command of a sample in words; `finished` where there is none.
+fn next_in_words(rt: &impl Abort, alloc: Global, sample: &mut Sample) -> String {
+    match &sample.next_command(alloc).expect(rt, "memory") {
+        Some(command) => command_in_words(rt, alloc, command),
+        None => owned(rt, alloc, "finished"),
+    }
+}
+
 /// The next command of a sample is this line.
 fn expect_next(rt: &impl Abort, alloc: Global, sample: &mut Sample, line: &str) {
-    let command = sample.next_command(alloc).expect(rt, "memory");
-    let command = command.expect(rt, "one command more");
-    expect_same(rt, command_in_words(rt, alloc, &command).as_str(), line);
+    expect_same(rt, next_in_words(rt, alloc, sample).as_str(), line);
 }
 
 /// Whether a sample has one command more, which is taken.
@@ -85,8 +91,8 @@ fn a_sample_is_what_another_program_says(rt: HostRuntime) {
     for line in &LINES {
         expect_next(&rt, rt.alloc(), &mut sample, line);
     }
-    assert!(rt; !has_next(&rt, rt.alloc(), &mut sample));
-    assert!(rt; !has_next(&rt, rt.alloc(), &mut sample));
+    expect_next(&rt, rt.alloc(), &mut sample, "finished");
+    expect_next(&rt, rt.alloc(), &mut sample, "finished");
 }
 
 #[test]
@@ -99,5 +105,5 @@ fn the_longest_sample_ends(rt: HostRuntime) {
         }
     }
     expect_same(&rt, given, MOST_CHANGES + 19);
-    assert!(rt; !has_next(&rt, rt.alloc(), &mut sample));
+    expect_next(&rt, rt.alloc(), &mut sample, "finished");
 }

@@ -1,51 +1,11 @@
 //! A script in pieces of any size gives the same items.
-ghost use Rattle.std.specs.Prelude.{◌^◌, ◌<◌};
-
+use crate::tests::batches::next_in_words;
 use crate::tests::given::expect_same;
-use crate::tests::in_words::{command_in_words, owned};
-use machine_model::{Failed, Source};
+use crate::tests::in_words::{command_in_words, counted, owned};
+use crate::tests::pieces::failing_first;
 use script_items::{Item, Reader, ScriptError};
 use std::alloc::Global;
 use std::process::Abort;
-
-/// A source that gives its bytes in pieces, after some pulls that fail.
-#[derive(Drop)]
-struct Pieces<'a> {
-    rest: &'a [u8],
-    piece: usize,
-    fails: u32,
-    faults: u64,
-    ghost counted: { faults < 2 ^ 64 },
-}
-
-impl Source for Pieces<'_> {
-    ghost use Rattle.std.specs.Prelude.{[], ◌≤◌, ℕ};
-    ghost use Rattle.std.proofs.Common.{arith};
-    ghost use Rattle.machine_model.specs.Pulls.{ArePulls};
-    ghost use Rattle.machine_model.proofs.PullLemmas.{source_laws};
-
-    ghost source_tells = { ⊥ };
-
-    ghost source = { λ s. record { left = []; faults = s.faults } };
-
-    ghost only = { λ x y. x.faults ≤ y.faults };
-
-    ghost pulled = { λ x lefts y. ArePulls (λ (faults : ℕ). []) (λ m n. m ≤ n) x.faults lefts y.faults };
-
-    ghost laws = { source_laws (λ x. x.faults) (λ n. record { left = []; faults = n }) (λ m n. m ≤ n) (λ n. Prim.omega arith) (λ m n k one two. Prim.omega (arith, one, two)) (λ m n one. one) (λ x. Prim.omega (arith, x.counted)) };
-
-    fn pull(&mut self, buf: &mut [u8]) -> Result<usize, Failed> {
-        if self.fails > 0 {
-            self.fails -= 1;
-            self.faults = self.faults.saturating_add(1);
-            return Err(Failed);
-        }
-        let n = self.piece.min(buf.len()).min(self.rest.len());
-        buf[..n].copy_from_slice(&self.rest[..n]);
-        self.rest = &self.rest[n..];
-        Ok(n)
-    }
-}
 
 /// What is read in words: a command, a line that is none, or nothing more.
 fn item_in_words(rt: &impl Abort, alloc: Global, item: &Option<Item>) -> String {
@@ -59,7 +19,7 @@ fn item_in_words(rt: &impl Abort, alloc: Global, item: &Option<Item>) -> String 
 /// Why nothing is read, in words.
 fn error_in_words(rt: &impl Abort, alloc: Global, error: &ScriptError) -> String {
     match error {
-        ScriptError::Broken { at } => { format!(in alloc; "broken at {at}").expect(rt, "memory") }
+        ScriptError::Broken { at } => counted(rt, alloc, "broken at", *at),
         ScriptError::Budget => owned(rt, alloc, "budget"),
         ScriptError::Failed => owned(rt, alloc, "failed"),
         ScriptError::Memory => owned(rt, alloc, "memory"),
@@ -78,24 +38,9 @@ pub(crate) fn in_words(
     }
 }
 
-/// The next answer of a reader in words.
-fn next_in_words(
-    rt: &impl Abort,
-    alloc: Global,
-    reader: &mut Reader,
-    source: &mut Pieces<'_>,
-) -> String {
-    in_words(rt, alloc, &reader.next_item(alloc, source))
-}
-
 /// A reader answers this, call after call, of a script in pieces of that size whose first pull fails.
 fn expect_answers(rt: &impl Abort, alloc: Global, script: &[u8], piece: usize, want: &[&str]) {
-    let mut source = Pieces {
-        rest: script,
-        piece,
-        fails: 1,
-        faults: 0,
-    };
+    let mut source = failing_first(script, piece);
     let mut reader = Reader::new(alloc).expect(rt, "memory");
     for words in want {
         let answer = next_in_words(rt, alloc, &mut reader, &mut source);

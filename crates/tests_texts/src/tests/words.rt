@@ -2,6 +2,7 @@
 ghost use Rattle.std.specs.Prelude.{◌≡◌, ◌∷◌, [], IfOk};
 
 use crate::tests::given::{expect_same, expect_same_in};
+use crate::tests::in_words::{beside, counted};
 use base_types::{Key, WordId};
 use std::alloc::{AllocError, Global};
 use std::process::Abort;
@@ -9,23 +10,51 @@ use text_words::{NumberError, Places, Vocabulary, Weighed, one_term};
 
 /// Shows a term with its count behind those that are shown.
 fn show(rt: &impl Abort, alloc: Global, out: &mut String, term: &str, count: u32) {
-    let shown = format!(in alloc; "{term} {count}, ").expect(rt, "memory");
+    let shown = counted(rt, alloc, term, u64::from(count));
     out.push_str(shown.as_str()).expect(rt, "memory");
+    out.push_str(", ").expect(rt, "memory");
 }
 
-/// The terms of a text as a text, each with its count behind it, by a vocabulary without words.
-fn shown(rt: &impl Abort, alloc: Global, text: &str) -> String {
-    assert!(rt; text.len() < 4294967296);
-    let vocabulary = Vocabulary::new(alloc).expect(rt, "memory");
-    let mut places = Places::new(alloc);
-    let found = vocabulary
-        .weigh(alloc, &mut places, text)
-        .expect(rt, "memory");
+/// Shows a word that has a number by it, with its count.
+fn show_number(rt: &impl Abort, alloc: Global, out: &mut String, number: u32, count: u32) {
+    let number = format!(in alloc; "{number}").expect(rt, "memory");
+    show(rt, alloc, out, number.as_str(), count);
+}
+
+/// What is weighed as a text: the words that have a number by it, and then the others, each with its count
+/// behind it.
+fn told(rt: &impl Abort, alloc: Global, found: &Weighed) -> String {
     let mut out = String::new(alloc);
+    for (number, count) in &found.known {
+        show_number(rt, alloc, &mut out, *number, *count);
+    }
     for (key, count) in &found.fresh {
         show(rt, alloc, &mut out, key.as_str(), *count);
     }
     out
+}
+
+/// A text weighed by a vocabulary.
+fn weighed(
+    rt: &impl Abort,
+    alloc: Global,
+    vocabulary: &Vocabulary,
+    places: &mut Places,
+    text: &str,
+) -> Weighed {
+    assert!(rt; text.len() < 4294967296);
+    vocabulary.weigh(alloc, places, text).expect(rt, "memory")
+}
+
+/// The terms of a text as a text, each with its count behind it, by a vocabulary without words.
+fn shown(rt: &impl Abort, alloc: Global, text: &str) -> String {
+    let vocabulary = numbered(rt, alloc, &[]);
+    let mut places = Places::new(alloc);
+    told(
+        rt,
+        alloc,
+        &weighed(rt, alloc, &vocabulary, &mut places, text),
+    )
 }
 
 /// Asserts of each row that the terms of its first text are shown as the second.
@@ -110,19 +139,20 @@ fn terms_of_eight_scripts(rt: HostRuntime) {
     assert_terms(&rt, rt.alloc(), &TERMS_OF_SCRIPTS);
 }
 
-/// How often the word occurs in the text, by a vocabulary that has it alone.
-fn times(rt: &impl Abort, alloc: Global, word: &str, text: &str) -> u32 {
-    assert!(rt; text.len() < 4294967296);
-    let vocabulary = numbered(rt, alloc, &[word]);
-    assert_eq!(rt; vocabulary.len(), 1);
-    let mut places = Places::new(alloc);
-    let found = vocabulary
-        .weigh(alloc, &mut places, text)
-        .expect(rt, "memory");
+/// How often the first word that has a number occurs.
+fn first_count(found: &Weighed) -> u32 {
     match found.known.first() {
         Some((_, count)) => *count,
         None => 0,
     }
+}
+
+/// How often the word occurs in the text, by a vocabulary that has it alone.
+fn times(rt: &impl Abort, alloc: Global, word: &str, text: &str) -> u32 {
+    let vocabulary = numbered(rt, alloc, &[word]);
+    expect_same(rt, vocabulary.len(), 1);
+    let mut places = Places::new(alloc);
+    first_count(&weighed(rt, alloc, &vocabulary, &mut places, text))
 }
 
 /// A word, a text, and how often the word occurs in it: from Python 3.11, as above.
@@ -286,38 +316,29 @@ fn words_are_numbered_in_the_order_in_which_they_come(rt: HostRuntime) {
     }
     expect_same(&rt, vocabulary.len(), 3);
     let id = WordId::new(2).expect(&rt, "a number");
-    assert!(rt; id.number() < vocabulary.len());
-    expect_same(&rt, vocabulary.word(id).as_str(), "or");
+    expect_word(&rt, &vocabulary, id, "or");
     expect_found(&rt, alloc, &vocabulary, "OR", Some(id));
     expect_found(&rt, alloc, &vocabulary, "not", None);
+}
+
+/// The word of a number is this.
+fn expect_word(rt: &impl Abort, vocabulary: &Vocabulary, id: WordId, word: &str) {
+    assert!(rt; id.number() < vocabulary.len());
+    expect_same(rt, vocabulary.word(id).as_str(), word);
+}
+
+/// Adds a term to a vocabulary.
+fn add(rt: &impl Abort, alloc: Global, vocabulary: &mut Vocabulary, term: &str) {
+    let _ = number(alloc, vocabulary, term).expect(rt, "room");
 }
 
 /// A vocabulary of these terms, in order.
 fn numbered(rt: &impl Abort, alloc: Global, terms: &[&str]) -> Vocabulary {
     let mut vocabulary = Vocabulary::new(alloc).expect(rt, "memory");
     for term in terms {
-        let _ = number(alloc, &mut vocabulary, term).expect(rt, "room");
+        add(rt, alloc, &mut vocabulary, term);
     }
     vocabulary
-}
-
-/// Shows a word that has a number by it, with its count.
-fn show_number(rt: &impl Abort, alloc: Global, out: &mut String, number: u32, count: u32) {
-    let number = format!(in alloc; "{number}").expect(rt, "memory");
-    show(rt, alloc, out, number.as_str(), count);
-}
-
-/// Asserts that what is weighed is shown as a text: the words that have a number by it, and then the
-/// others.
-fn expect_weighed(rt: &impl Abort, alloc: Global, found: &Weighed, text: &str, wanted: &str) {
-    let mut out = String::new(alloc);
-    for (number, count) in &found.known {
-        show_number(rt, alloc, &mut out, *number, *count);
-    }
-    for (key, count) in &found.fresh {
-        show(rt, alloc, &mut out, key.as_str(), *count);
-    }
-    expect_same_in(rt, text, out.as_str(), wanted);
 }
 
 /// Asserts of each row that its first text is weighed as the second.
@@ -329,9 +350,8 @@ fn assert_weights(
     rows: &[(&str, &str)],
 ) {
     for (text, wanted) in rows {
-        assert!(rt; text.len() < 4294967296);
-        let found = vocabulary.weigh(alloc, places, text).expect(rt, "memory");
-        expect_weighed(rt, alloc, &found, text, wanted);
+        let found = told(rt, alloc, &weighed(rt, alloc, vocabulary, places, text));
+        expect_same_in(rt, text, found.as_str(), *wanted);
     }
 }
 
@@ -349,17 +369,9 @@ fn words_are_weighed_by_number_or_by_key(rt: HostRuntime) {
     assert_weights(&rt, alloc, &vocabulary, &mut places, &rows);
 }
 
-/// Adds the word `w` with a number behind it to a vocabulary and to a text.
-fn add_word(
-    rt: &impl Abort,
-    alloc: Global,
-    vocabulary: &mut Vocabulary,
-    text: &mut String,
-    at: u32,
-) {
-    let word = format!(in alloc; "w{at} ").expect(rt, "memory");
-    let _ = number(alloc, vocabulary, word.as_str()).expect(rt, "room");
-    text.push_str(word.as_str()).expect(rt, "memory");
+/// The word `w` with a number behind it, and a space.
+fn word_at(rt: &impl Abort, alloc: Global, at: u32) -> String {
+    format!(in alloc; "w{at} ").expect(rt, "memory")
 }
 
 /// Adds the words `w0`, `w1` and so on to a vocabulary, so many, and gives the text of them.
@@ -371,27 +383,33 @@ fn numbered_text(
 ) -> String {
     let mut text = String::new(alloc);
     for at in 0..words {
-        add_word(rt, alloc, vocabulary, &mut text, at);
+        let word = word_at(rt, alloc, at);
+        add(rt, alloc, vocabulary, word.as_str());
+        text.push_str(word.as_str()).expect(rt, "memory");
     }
     text
 }
 
+/// So many words have each its own number, in order, and a count of 2.
+fn expect_own_numbers(rt: &impl Abort, found: &Weighed, words: u32) {
+    expect_same(
+        rt,
+        (found.known.len(), found.fresh.len()),
+        (words as usize, 0),
+    );
+    for (place, (number, count)) in found.known.iter().enumerate() {
+        expect_same(rt, (*number as usize, *count), (place, 2));
+    }
+}
+
 /// Asserts that so many words that stand twice in a text are weighed each by its own number.
 fn assert_own_numbers(rt: &impl Abort, alloc: Global, words: u32) {
-    let mut vocabulary = Vocabulary::new(alloc).expect(rt, "memory");
+    let mut vocabulary = numbered(rt, alloc, &[]);
     let text = numbered_text(rt, alloc, &mut vocabulary, words);
     let text = repeated(rt, alloc, text.as_str(), 2);
-    assert!(rt; text.len() < 4294967296);
     let mut places = Places::new(alloc);
-    let found = vocabulary
-        .weigh(alloc, &mut places, text.as_str())
-        .expect(rt, "memory");
-    expect_same(rt, found.known.len(), words as usize);
-    assert!(rt; found.fresh.is_empty());
-    for (place, (number, count)) in found.known.iter().enumerate() {
-        expect_same(rt, *number as usize, place);
-        expect_same_in(rt, place, *count, 2);
-    }
+    let found = weighed(rt, alloc, &vocabulary, &mut places, text.as_str());
+    expect_own_numbers(rt, &found, words);
 }
 
 // There are 2,048 slots for guesses: `ferry` and `place` have the same one, and so have two of any 2,049
@@ -416,7 +434,7 @@ fn assert_grown(rt: &impl Abort, alloc: Global, places: &mut Places) {
     let mut vocabulary = numbered(rt, alloc, &["ferry", "toll"]);
     let before = ("toll ferry Toll bridge", "1 2, 0 1, bridge 1, ");
     assert_weights(rt, alloc, &vocabulary, places, &[before]);
-    let _ = number(alloc, &mut vocabulary, "bridge").expect(rt, "room");
+    add(rt, alloc, &mut vocabulary, "bridge");
     let after = ("bridge Toll bridge ferry", "2 2, 1 1, 0 1, ");
     assert_weights(rt, alloc, &vocabulary, places, &[after]);
 }
@@ -447,7 +465,10 @@ fn guesses_outlive_their_vocabulary(rt: HostRuntime) {
 
 /// A run, one that is a letter longer, and the first one again.
 fn with_longer(rt: &impl Abort, alloc: Global, run: &str) -> String {
-    format!(in alloc; "{run} {run}a {run}").expect(rt, "memory")
+    let mut text = beside(rt, alloc, run, run);
+    text.push_str("a ").expect(rt, "memory");
+    text.push_str(run).expect(rt, "memory");
+    text
 }
 
 #[test]
