@@ -5,6 +5,7 @@ mod faults;
 mod foreign;
 mod history;
 mod lines;
+mod marks;
 mod pieces;
 mod plan_stops;
 mod replies;

@@ -1,7 +1,7 @@
 //! Entries as bytes, and bytes that spell none.
 use crate::tests::given::{expect_same, expect_same_in};
 use base_types::{DocId, Time};
-use journal_entries::{CodecError, Entry, decode, encode_arrival, encode_deletion};
+use journal_entries::{CodecError, Entry, decode, encode_arrival, encode_deletion, encode_format};
 use std::alloc::Global;
 use std::process::Abort;
 
@@ -51,6 +51,34 @@ fn a_deletion_has_thirteen_bytes(rt: HostRuntime) {
     expect_same(&rt, (doc.0, at.seconds()), (7, 1_099_511_627_775));
     let spelled = encode_deletion(rt.alloc(), doc, at).expect(&rt, "memory");
     expect_same(&rt, spelled.as_slice(), DELETION.as_slice());
+}
+
+/// The mark of a journal that may have batches.
+const MARK: [u8; 3] = [5, 0, 2];
+
+/// Whether bytes spell the mark.
+fn marks(alloc: Global, body: &[u8]) -> bool {
+    matches!(decode(alloc, body), Ok(Entry::Format))
+}
+
+#[test]
+fn the_mark_has_three_bytes(rt: HostRuntime) {
+    let alloc = rt.alloc();
+    let spelled = encode_format(alloc).expect(&rt, "memory");
+    expect_same(
+        &rt,
+        (spelled.as_slice(), marks(alloc, &MARK)),
+        (MARK.as_slice(), true),
+    );
+    // another number, one that is cut short, and a byte too many
+    let places = [
+        named(alloc, &[5, 0, 3]),
+        named(alloc, &[5, 0]),
+        named(alloc, &[5]),
+        named(alloc, &[5, 0, 2, 0]),
+        named(alloc, &[4, 0, 2]),
+    ];
+    expect_same(&rt, places, [Some(1), Some(1), Some(1), Some(3), Some(0)]);
 }
 
 /// The place that bytes name which spell no entry.
