@@ -21,6 +21,10 @@ def delete(doc: int, time: int) -> bytes:
     return b"delete %d %d\n" % (doc, time)
 
 
+def mark() -> bytes:
+    return b"format 2\n"
+
+
 def show(doc: int, time: int) -> bytes:
     return b"show %d %d\n" % (doc, time)
 

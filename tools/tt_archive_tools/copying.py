@@ -138,4 +138,6 @@ def bring_up(first: Journal, copy: Journal, feed_first: Feed, feed_copy: Feed) -
 def _command(entry: Entry) -> bytes:
     if entry.plan:
         return commands.plan(entry.plan.word, entry.plan.form)
+    if entry.marks:
+        return commands.mark()
     return commands.arrive(entry.doc, entry.time, entry.text) if entry.arrives else commands.delete(entry.doc, entry.time)

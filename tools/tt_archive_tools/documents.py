@@ -139,7 +139,7 @@ def _held(shards: Sequence[Shard]) -> dict[int, tuple[str, str]]:
     ends: dict[int, str] = {}
     for shard in shards:
         for entry in entries(shard.folder, texts=False) if shard.is_here else ():
-            if entry.plan is None:
+            if entry.changes:
                 versions[entry.doc] = versions.get(entry.doc, 0) + entry.arrives
                 ends[entry.doc] = "now" if entry.arrives else show_time(entry.time)
     return {doc: (str(count), ends[doc]) for doc, count in versions.items()}

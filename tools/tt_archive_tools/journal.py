@@ -14,7 +14,7 @@ from .program import JOURNAL, PAGES, Shard
 HEADER = b"TIMETRAVELTEXT\x00\x01"
 _OPEN = b"\xa5"
 _PAGE = 4_096
-_ARRIVE, _DELETE, _PLAN = 1, 2, 3
+_ARRIVE, _DELETE, _PLAN, _MARK = 1, 2, 3, 5
 #: The length of an entry, its tag, and what follows it in an arrival and a deletion.
 _HEAD = struct.Struct(">IBIQ")
 #: The kinds of plans, as a script writes them.
@@ -37,7 +37,8 @@ class StoredPlan:
 
 
 class Entry(NamedTuple):
-    """An arrival (with its text, where texts are read), a deletion, or a plan (no document)."""
+    """An arrival (with its text, where texts are read), a deletion, a plan, or the mark of a journal that may have
+    batches. The last two have no document."""
 
     tag: int
     doc: int
@@ -60,6 +61,15 @@ class Entry(NamedTuple):
     @property
     def deletes(self) -> bool:
         return self.tag == _DELETE
+
+    @property
+    def changes(self) -> bool:
+        """Whether it is a change of a document."""
+        return self.arrives or self.deletes
+
+    @property
+    def marks(self) -> bool:
+        return self.tag == _MARK
 
 
 def entries(folder: Path, texts: bool) -> Iterator[Entry]:
@@ -87,9 +97,11 @@ def heads(folder: Path) -> Iterator[tuple[int, int, bool]]:
                     raise InputError(str(path), "no archive's journal")
                 gate = len(HEADER)
                 while data[gate] == _OPEN[0]:
-                    length, tag, doc, time = _HEAD.unpack_from(data, gate + 1)
-                    if tag != _PLAN:
+                    if data[gate + 5] in (_ARRIVE, _DELETE):
+                        length, tag, doc, time = _HEAD.unpack_from(data, gate + 1)
                         yield doc, time, tag == _ARRIVE
+                    else:
+                        length = _number(data, gate + 1, 4)
                     gate += 5 + length
     except (OSError, IndexError, struct.error) as error:
         raise InputError(str(path), getattr(error, "strerror", None) or str(error)) from None
@@ -97,7 +109,7 @@ def heads(folder: Path) -> Iterator[tuple[int, int, bool]]:
 
 def history(folder: Path, doc: int) -> list[Entry]:
     """A document's versions and ends, in order of time."""
-    return [entry for entry in entries(folder, texts=False) if entry.doc == doc and entry.plan is None]
+    return [entry for entry in entries(folder, texts=False) if entry.changes and entry.doc == doc]
 
 
 def text_of(folder: Path, entry: Entry) -> bytes:
@@ -128,6 +140,9 @@ def entries_from(file: BinaryIO, gate: int, path: str, texts: bool) -> Iterator[
         if tag == _PLAN:
             yield Entry(tag, 0, 0, b"", _plan(head + file.read(rest), path), body + len(head), rest)
             continue
+        if tag == _MARK:
+            yield Entry(tag, 0, 0, b"", at=body + len(head), size=rest)
+            continue
         text = file.read(rest) if texts else b""
         if not texts:
             file.seek(rest, 1)
@@ -151,7 +166,7 @@ def _plan(body: bytes, path: str) -> StoredPlan:
         raise InputError(path, "a plan's entry can't be read") from None
 
 
-def _number(body: bytes, at: int, size: int) -> int:
+def _number(body: bytes | mmap.mmap, at: int, size: int) -> int:
     return int.from_bytes(body[at : at + size], "big")
 
 
@@ -217,6 +232,7 @@ def _summary(folder: Path) -> Summary:
         if entry.plan:
             found.plans += 1
             found.live[entry.plan.word] = [entry.plan]
+        if not entry.changes:
             continue
         found.arrivals += entry.arrives
         found.deletions += entry.deletes

@@ -79,6 +79,6 @@ def _documents(collection: Collection) -> dict[str, _Latest]:
         if not shard.is_here:
             continue
         for entry in entries(shard.folder, texts=False):
-            if entry.plan is None:
+            if entry.changes:
                 found[collection.names.name(entry.doc)] = _Latest(entry.time, entry.arrives)
     return found
