@@ -1,10 +1,11 @@
 //! Sublists with bytes that changed: the first is told, with what was found there and what is wanted.
-use crate::rows::disks::{expect_told, put_byte};
+use crate::rows::disks::{expect_planned, expect_told, verify};
 use rows_rig::{
-    CLIPPED_LIVES, LIFE_OF_1, LIVES_OF_1_AND_2, Row, Sublist, copy_image, disk_after, disk_with,
-    expect_on, first_disk, first_segments, machine_on, plan_of_v, run_on, segment_at,
+    CLIPPED_LIVES, Damaged, LIFE_OF_1, LIVES_OF_1_AND_2, Row, RowError, Sublist, disk_after,
+    disk_with, disk_with_bytes, expect_damaged, expect_on, expect_same, first_disk, first_segments,
+    plan_of_v, segment_at,
 };
-use run_script::Status;
+use std::alloc::Global;
 
 /// Document 1 has the word twice in [10, 40): the bytes of once, with 02 as bytes 6 and 15.
 const TWICE: Sublist<'static> = Sublist {
@@ -37,160 +38,158 @@ const SHORT: Sublist<'static> = Sublist {
 // Questions are answered from the bytes, whose digest is right: only the check sees that they aren't those of the
 // texts. It leaves everything as it was.
 #[test]
-fn bytes_whose_digest_was_made_anew_are_seen_by_the_check_alone(rt: HostRuntime) {
+fn bytes_whose_digest_was_made_anew_are_seen_by_the_check_alone(
+    rt: HostRuntime,
+) -> Result<(), RowError> {
     let alloc = rt.alloc();
-    let mut segments = first_segments();
-    segments[0].sublist = TWICE;
-    let disk = disk_with(alloc, &plan_of_v(40, &segments)).expect(&rt, "a disk");
+    let [_, two, three] = first_segments();
+    let segments = [segment_at(10, 0, TWICE), two, three];
+    let disk = disk_with(alloc, &plan_of_v(40, &segments))?;
     let row = Row {
         script: b"find 15 v\nverify\nfind 15 v\n",
         replies: b"hit 1 2\nend 1 read 1\ndiffers v 0 6 02 01\nhit 1 2\nend 1 read 1\n",
     };
-    let left = disk_after(alloc, &disk, &row).expect(&rt, "the replies");
-    assert_eq!(rt; left.journal.as_slice(), disk.journal.as_slice());
-    assert_eq!(rt; left.pages.as_slice(), disk.pages.as_slice());
-}
-
-// Document 1 lives from 10 to 40, and the plan's horizon is 20. The list in memory begins there, so what is told of the
-// times before is what the sublist says, also over a window that reaches past the horizon.
-#[test]
-fn the_list_in_memory_tells_of_no_time_before_the_horizon(rt: HostRuntime) {
-    let alloc = rt.alloc();
-    let segments = [segment_at(10, 0, SHORT)];
-    let disk = disk_with(alloc, &plan_of_v(20, &segments)).expect(&rt, "a disk");
-    let row = Row {
-        script: b"between 10 40 v\nfind 15 v\nfind 20 v\nverify\n",
-        replies: b"span 1 10 15 1\nspan 1 20 40 1\nspan 2 20 30 1\nend 3 read 3\nend 0 read 1\nhit 1 1\nhit 2 1\nend 2 read 2\ndiffers v 0 17 05 0a\n",
-    };
-    expect_on(alloc, &disk, &[row]).expect(&rt, "the replies");
+    let left = disk_after(alloc, &disk, &row)?;
+    expect_same(0, &left, &disk)
 }
 
 // Under the digest that the texts' sublist has, the same bytes end the run at the first question that reads
 // them, whatever was asked before.
 #[test]
-fn bytes_under_the_digest_of_others_are_answered_by_no_text(rt: HostRuntime) {
+fn bytes_under_the_digest_of_others_are_answered_by_no_text(
+    rt: HostRuntime,
+) -> Result<(), RowError> {
     let alloc = rt.alloc();
-    let mut segments = first_segments();
-    segments[0].sublist = Sublist {
+    let [_, two, three] = first_segments();
+    let stranger = Sublist {
         digest: LIFE_OF_1.digest,
         ..TWICE
     };
-    let disk = disk_with(alloc, &plan_of_v(40, &segments)).expect(&rt, "a disk");
-    let script = b"find 25 v\nverify\nfind 25 v\nfind 15 v\nfind 25 v\n";
-    let mut machine = machine_on(alloc, script, disk, &[]).expect(&rt, "a machine");
-    let status = run_on(alloc, &mut machine).expect(&rt, "a run");
-    let told = format!(in alloc; "{status}").expect(&rt, "memory");
-    let line = "tt_archive: damaged sublist at page 0: digest";
-    assert_eq!(rt; told.as_str(), line);
-    assert_eq!(rt; status.code(), 8);
-    let replies =
-        b"hit 1 1\nhit 2 1\nend 2 read 2\ndiffers v 0 6 02 01\nhit 1 1\nhit 2 1\nend 2 read 2\n";
-    assert_eq!(rt; machine.shown(), replies.as_slice());
+    let segments = [segment_at(10, 0, stranger), two, three];
+    let disk = disk_with(alloc, &plan_of_v(40, &segments))?;
+    let row = Damaged {
+        script: b"find 25 v\nverify\nfind 25 v\nfind 15 v\nfind 25 v\n",
+        replies: b"hit 1 1\nhit 2 1\nend 2 read 2\ndiffers v 0 6 02 01\nhit 1 1\nhit 2 1\nend 2 read 2\n",
+        line: "tt_archive: damaged sublist at page 0: digest",
+    };
+    expect_damaged(alloc, &disk, &[row])
 }
 
-// A question ends the run where it reads such bytes; the check tells their place, and the run goes on.
+/// Other bytes in the Pages of the first plan, and what a check tells of each.
+const EACH_BYTE: [(usize, &[u8]); 18] = [
+    (0, b"differs v 0 0 a5 01\n"),
+    (1, b"differs v 0 1 a5 00\n"),
+    (2, b"differs v 0 2 a5 03\n"),
+    (3, b"differs v 0 3 a5 00\n"),
+    (4, b"differs v 0 4 a5 00\n"),
+    (5, b"differs v 0 5 a5 00\n"),
+    (6, b"differs v 0 6 a5 01\n"),
+    (7, b"differs v 0 7 a5 00\n"),
+    (8, b"differs v 0 8 a5 00\n"),
+    (9, b"differs v 0 9 a5 00\n"),
+    (10, b"differs v 0 10 a5 01\n"),
+    (11, b"differs v 0 11 a5 00\n"),
+    (12, b"differs v 0 12 a5 00\n"),
+    (13, b"differs v 0 13 a5 00\n"),
+    (14, b"differs v 0 14 a5 01\n"),
+    (15, b"differs v 0 15 a5 01\n"),
+    (16, b"differs v 0 16 a5 0a\n"),
+    (17, b"differs v 0 17 a5 1e\n"),
+];
+
+/// With the byte a5 in this place of Pages the check tells this and the run goes on, and a question that reads it ends
+/// the run.
+fn expect_byte(alloc: Global, at: usize, told: &[u8]) -> Result<(), RowError> {
+    let disk = first_disk(alloc)?;
+    let changed = disk_with_bytes(alloc, &disk, &[(at, 0xa5)])?;
+    expect_on(alloc, &changed, &[verify(told)])?;
+    let question = Damaged {
+        script: b"find 15 v\n",
+        replies: b"",
+        line: "tt_archive: damaged sublist at page 0: digest",
+    };
+    expect_damaged(alloc, &changed, &[question])
+}
+
 #[test]
-fn each_byte_that_changed_is_named(rt: HostRuntime) {
-    let alloc = rt.alloc();
-    let disk = first_disk(alloc).expect(&rt, "a disk");
-    for (at, told) in [
-        b"differs v 0 0 a5 01\n".as_slice(),
-        b"differs v 0 1 a5 00\n".as_slice(),
-        b"differs v 0 2 a5 03\n".as_slice(),
-        b"differs v 0 3 a5 00\n".as_slice(),
-        b"differs v 0 4 a5 00\n".as_slice(),
-        b"differs v 0 5 a5 00\n".as_slice(),
-        b"differs v 0 6 a5 01\n".as_slice(),
-        b"differs v 0 7 a5 00\n".as_slice(),
-        b"differs v 0 8 a5 00\n".as_slice(),
-        b"differs v 0 9 a5 00\n".as_slice(),
-        b"differs v 0 10 a5 01\n".as_slice(),
-        b"differs v 0 11 a5 00\n".as_slice(),
-        b"differs v 0 12 a5 00\n".as_slice(),
-        b"differs v 0 13 a5 00\n".as_slice(),
-        b"differs v 0 14 a5 01\n".as_slice(),
-        b"differs v 0 15 a5 01\n".as_slice(),
-        b"differs v 0 16 a5 0a\n".as_slice(),
-        b"differs v 0 17 a5 1e\n".as_slice(),
-    ]
-    .into_iter()
-    .enumerate()
-    {
-        let mut changed = copy_image(alloc, &disk).expect(&rt, "memory");
-        put_byte(&rt, &mut changed, at, 0xa5);
-        expect_told(&rt, alloc, &changed, told);
-        let mut machine = machine_on(alloc, b"find 15 v\n", changed, &[]).expect(&rt, "a machine");
-        assert_eq!(rt;
-            run_on(alloc, &mut machine).expect(&rt, "a run").code(),
-            8,
-            "{at}"
-        );
-        assert_eq!(rt; machine.shown(), b"".as_slice(), "{at}");
+fn each_byte_that_changed_is_named(rt: HostRuntime) -> Result<(), RowError> {
+    for (at, told) in &EACH_BYTE {
+        expect_byte(rt.alloc(), *at, told)?;
     }
-}
-
-// Pages behind the sublists are none of them.
-#[test]
-fn the_first_segment_that_differs_is_told(rt: HostRuntime) {
-    let alloc = rt.alloc();
-    let mut disk = first_disk(alloc).expect(&rt, "a disk");
-    put_byte(&rt, &mut disk, 18, 0xa5);
-    put_byte(&rt, &mut disk, 4095, 0xa5);
-    expect_told(&rt, alloc, &disk, b"sound 1 3\n");
-    put_byte(&rt, &mut disk, 8209, 0x1d);
-    expect_told(&rt, alloc, &disk, b"differs v 2 17 1d 1e\n");
-    put_byte(&rt, &mut disk, 4096 + 21, 0);
-    expect_told(&rt, alloc, &disk, b"differs v 1 21 00 0a\n");
-    put_byte(&rt, &mut disk, 4096 + 2, 6);
-    expect_told(&rt, alloc, &disk, b"differs v 1 2 06 07\n");
+    Ok(())
 }
 
 #[test]
-fn bytes_that_are_missing_and_bytes_too_many_are_told(rt: HostRuntime) {
+fn the_first_segment_that_differs_is_told(rt: HostRuntime) -> Result<(), RowError> {
     let alloc = rt.alloc();
-    let mut segments = first_segments();
-    segments[0].sublist = CUT;
-    let disk = disk_with(alloc, &plan_of_v(40, &segments)).expect(&rt, "a disk");
-    expect_told(&rt, alloc, &disk, b"differs v 0 17 -- 1e\n");
-    segments[0].sublist = LONGER;
-    let disk = disk_with(alloc, &plan_of_v(40, &segments)).expect(&rt, "a disk");
-    expect_told(&rt, alloc, &disk, b"differs v 0 18 00 --\n");
-}
-
-// A sublist of too many postings, and one of the lives up to 30.
-#[test]
-fn the_sublist_of_other_times_is_told(rt: HostRuntime) {
-    let alloc = rt.alloc();
-    let segments = [
-        segment_at(10, 0, LIVES_OF_1_AND_2),
-        segment_at(20, 1, LIVES_OF_1_AND_2),
-        segment_at(30, 2, LIFE_OF_1),
+    let disk = first_disk(alloc)?;
+    let rows: [(&[(usize, u8)], &[u8]); 4] = [
+        // Pages behind the sublists are none of them
+        (&[(18, 0xa5), (4095, 0xa5)], b"sound 1 3\n"),
+        (
+            &[(18, 0xa5), (4095, 0xa5), (8209, 0x1d)],
+            b"differs v 2 17 1d 1e\n",
+        ),
+        (
+            &[(18, 0xa5), (4095, 0xa5), (8209, 0x1d), (4096 + 21, 0)],
+            b"differs v 1 21 00 0a\n",
+        ),
+        (
+            &[
+                (18, 0xa5),
+                (4095, 0xa5),
+                (8209, 0x1d),
+                (4096 + 21, 0),
+                (4096 + 2, 6),
+            ],
+            b"differs v 1 2 06 07\n",
+        ),
     ];
-    let disk = disk_with(alloc, &plan_of_v(40, &segments)).expect(&rt, "a disk");
-    expect_told(&rt, alloc, &disk, b"differs v 0 0 02 01\n");
-    let mut segments = first_segments();
-    segments[1].sublist = CLIPPED_LIVES;
-    let disk = disk_with(alloc, &plan_of_v(40, &segments)).expect(&rt, "a disk");
-    expect_told(&rt, alloc, &disk, b"differs v 1 17 14 1e\n");
+    expect_told(alloc, &disk, &rows)
+}
+
+#[test]
+fn the_sublist_of_other_times_is_told(rt: HostRuntime) -> Result<(), RowError> {
+    let [one, two, three] = first_segments();
+    let short = [segment_at(10, 0, SHORT)];
+    let cut = [segment_at(10, 0, CUT), two, three];
+    let longer = [segment_at(10, 0, LONGER), two, three];
+    let many = [segment_at(10, 0, LIVES_OF_1_AND_2), two, three];
+    let clipped = [one, segment_at(20, 1, CLIPPED_LIVES), three];
+    let rows = [
+        // Document 1 lives from 10 to 40, and the plan's horizon is 20. The list in memory begins there, so what is told
+        // of the times before is what the sublist says, also over a window that reaches past the horizon.
+        (
+            plan_of_v(20, &short),
+            Row {
+                script: b"between 10 40 v\nfind 15 v\nfind 20 v\nverify\n",
+                replies: b"span 1 10 15 1\nspan 1 20 40 1\nspan 2 20 30 1\nend 3 read 3\nend 0 read 1\nhit 1 1\nhit 2 1\nend 2 read 2\ndiffers v 0 17 05 0a\n",
+            },
+        ),
+        // bytes that are missing, and bytes too many
+        (plan_of_v(40, &cut), verify(b"differs v 0 17 -- 1e\n")),
+        (plan_of_v(40, &longer), verify(b"differs v 0 18 00 --\n")),
+        // a sublist of too many postings, and one of the lives up to 30
+        (plan_of_v(40, &many), verify(b"differs v 0 0 02 01\n")),
+        (plan_of_v(40, &clipped), verify(b"differs v 1 17 14 1e\n")),
+    ];
+    expect_planned(rt.alloc(), &rows)
 }
 
 // A check goes on behind a fault that it told; what it told is no status.
 #[test]
-fn what_is_told_ends_no_run(rt: HostRuntime) {
+fn what_is_told_ends_no_run(rt: HostRuntime) -> Result<(), RowError> {
     let alloc = rt.alloc();
-    let mut disk = first_disk(alloc).expect(&rt, "a disk");
-    put_byte(&rt, &mut disk, 3, 1);
+    let disk = disk_with_bytes(alloc, &first_disk(alloc)?, &[(3, 1)])?;
     let rows = [Row {
         script: b"verify\nfind 25 v\nverify\narrive 3 40 1\nw\nverify\n",
         replies: b"differs v 0 3 01 00\nhit 1 1\nhit 2 1\nend 2 read 2\ndiffers v 0 3 01 00\nok 6\ndiffers v 0 3 01 00\n",
     }];
-    expect_on(alloc, &disk, &rows).expect(&rt, "the replies");
-    let mut machine = machine_on(alloc, b"verify\nfind 15 v\nverify\n", disk, &[]).expect(
-        &rt,
-        "a machine",
-    );
-    let status = run_on(alloc, &mut machine).expect(&rt, "a run");
-    assert_eq!(rt; status.code(), 8);
-    assert!(rt; status != Status::Done);
-    assert_eq!(rt; machine.shown(), b"differs v 0 3 01 00\n".as_slice());
+    expect_on(alloc, &disk, &rows)?;
+    let question = Damaged {
+        script: b"verify\nfind 15 v\nverify\n",
+        replies: b"differs v 0 3 01 00\n",
+        line: "tt_archive: damaged sublist at page 0: digest",
+    };
+    expect_damaged(alloc, &disk, &[question])
 }

@@ -1,22 +1,50 @@
-//! What a check tells of a disk, and bytes put in its Pages.
+//! What a check tells of a disk with other bytes in its Pages, and what is answered on a disk with a plan that
+//! is spelled here.
 use machine_model::Image;
-use rows_rig::{Row, expect_on};
+use rows_rig::{
+    Plan, Row, RowError, disk_with, disk_with_bytes, expect_end, expect_on, machine_on,
+};
+use run_script::Status;
 use std::alloc::Global;
-use std::process::Abort;
 
-/// A check of the disk tells this.
-pub(crate) fn expect_told(rt: &impl Abort, alloc: Global, disk: &Image, told: &[u8]) {
-    let row = Row {
+/// A check and what it tells.
+pub(crate) fn verify(told: &[u8]) -> Row<'_> {
+    Row {
         script: b"verify\n",
         replies: told,
-    };
-    expect_on(alloc, disk, &[row]).expect(rt, "the replies");
+    }
 }
 
-/// Puts a byte in Pages, which have to reach there.
-pub(crate) fn put_byte(rt: &impl Abort, disk: &mut Image, at: usize, byte: u8) {
-    match disk.pages.get_mut(at) {
-        Some(there) => *there = byte,
-        None => panic!(rt; "Pages are shorter"),
+/// A check of a disk tells this. In its table the disk is this row, counted from 0.
+pub(crate) fn expect_check(
+    alloc: Global,
+    disk: Image,
+    row: usize,
+    told: &[u8],
+) -> Result<(), RowError> {
+    let mut machine = machine_on(alloc, b"verify\n", disk, &[])?;
+    expect_end(alloc, &mut machine, row, Status::Done, told)
+}
+
+/// With these bytes in its Pages, each with its place, a check of the disk tells this; the disk is the same for
+/// each row.
+pub(crate) fn expect_told(
+    alloc: Global,
+    disk: &Image,
+    rows: &[(&[(usize, u8)], &[u8])],
+) -> Result<(), RowError> {
+    for (row, (bytes, told)) in rows.iter().enumerate() {
+        let changed = disk_with_bytes(alloc, disk, bytes)?;
+        expect_check(alloc, changed, row, told)?;
     }
+    Ok(())
+}
+
+/// On a disk with the four changes and a plan a script has its replies.
+pub(crate) fn expect_planned(alloc: Global, rows: &[(Plan<'_>, Row<'_>)]) -> Result<(), RowError> {
+    for (plan, row) in rows {
+        let disk = disk_with(alloc, plan)?;
+        expect_on(alloc, &disk, &[*row])?;
+    }
+    Ok(())
 }

@@ -1,14 +1,15 @@
 //! Flat sublists are checked too, by the 24 bytes of each posting.
-use crate::rows::disks::{expect_told, put_byte};
-use rows_rig::flat_disk;
+use crate::rows::disks::expect_told;
+use rows_rig::{RowError, flat_disk};
 
 #[test]
-fn flat_sublists_are_checked_by_their_layout(rt: HostRuntime) {
+fn flat_sublists_are_checked_by_their_layout(rt: HostRuntime) -> Result<(), RowError> {
     let alloc = rt.alloc();
-    let mut disk = flat_disk(alloc).expect(&rt, "a disk");
-    expect_told(&rt, alloc, &disk, b"sound 1 3\n");
-    put_byte(&rt, &mut disk, 4096 + 47, 0x1f);
-    expect_told(&rt, alloc, &disk, b"differs v 1 47 1f 1e\n");
-    put_byte(&rt, &mut disk, 3, 2);
-    expect_told(&rt, alloc, &disk, b"differs v 0 3 02 01\n");
+    let disk = flat_disk(alloc)?;
+    let rows: [(&[(usize, u8)], &[u8]); 3] = [
+        (&[], b"sound 1 3\n"),
+        (&[(4096 + 47, 0x1f)], b"differs v 1 47 1f 1e\n"),
+        (&[(4096 + 47, 0x1f), (3, 2)], b"differs v 0 3 02 01\n"),
+    ];
+    expect_told(alloc, &disk, &rows)
 }

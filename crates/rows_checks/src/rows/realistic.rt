@@ -1,8 +1,8 @@
 //! A page with forty versions and two hundred notes, as a collection may have them: plans of twelve words,
 //! questions by them, and the check.
-use rows_rig::{Row, disk_after, new_disk};
+use crate::rows::disks::expect_check;
+use rows_rig::{Row, RowError, disk_after, new_disk, put_lines};
 use std::alloc::{AllocError, Global};
-use std::process::Abort;
 
 /// Seconds of a day.
 const DAY: u64 = 86_400;
@@ -13,164 +13,110 @@ const VERSIONS: u64 = 40;
 /// The notes are the documents 1 to 200, and arrive on the day behind the last version.
 const NOTES: u64 = 200;
 
-/// So many versions' own words have plans, and of so many is asked.
-const PLANNED: u64 = 11;
-
+/// The questions are for the own words of so many versions. Of the first 11 of these there are plans.
 const ASKED: u64 = 30;
 
-/// The word that one version alone has: `rev` and its number in two digits.
-fn own_word(alloc: Global, version: u64) -> Result<String, AllocError> {
-    if version < 10 {
-        return format!(in alloc; "rev0{version}");
-    }
-    format!(in alloc; "rev{version}")
-}
-
-/// Adds a text.
-fn put(rt: &impl Abort, bytes: &mut Vec<u8>, text: Result<String, AllocError>) {
-    let text = text.expect(rt, "memory");
-    bytes
-        .extend_from_slice(text.as_bytes())
-        .expect(rt, "memory");
+/// Adds the word that one version alone has: `rev` and its number in two digits.
+fn put_own_word(alloc: Global, bytes: &mut Vec<u8>, version: u64) -> Result<(), AllocError> {
+    let front = if version < 10 { "rev0" } else { "rev" };
+    put_lines(alloc, bytes, front, (version, version), "\n")
 }
 
 /// Adds a version of document 1000: `wiki` 7,999 times, and its own word, 40,000 bytes.
-fn put_version(rt: &impl Abort, alloc: Global, script: &mut Vec<u8>, version: u64) {
-    put(
-        rt,
-        script,
-        format!(in alloc; "arrive 1000 {} 40000\n", DAY.wrapping_mul(version)),
-    );
+fn put_version(alloc: Global, script: &mut Vec<u8>, version: u64) -> Result<(), AllocError> {
+    let day = DAY.wrapping_mul(version);
+    put_lines(alloc, script, "arrive 1000 ", (day, day), " 40000\n")?;
     for _ in 0..7999 {
-        script.extend_from_slice(b"wiki ").expect(rt, "memory");
+        script.extend_from_slice(b"wiki ")?;
     }
-    put(rt, script, own_word(alloc, version));
-    script.extend_from_slice(b"\n").expect(rt, "memory");
+    put_own_word(alloc, script, version)
 }
 
-/// The versions and the notes.
-fn changes(rt: &impl Abort, alloc: Global) -> Vec<u8> {
-    let mut script = Vec::new(alloc);
+/// Adds the versions and the notes.
+fn put_changes(alloc: Global, script: &mut Vec<u8>) -> Result<(), AllocError> {
     for version in 1..=VERSIONS {
-        put_version(rt, alloc, &mut script, version);
+        put_version(alloc, script, version)?;
     }
-    for note in 1..=NOTES {
-        put(
-            rt,
-            &mut script,
-            format!(in alloc; "arrive {note} 3542400 9\nnote wiki\n"),
-        );
-    }
-    script
-}
-
-/// Their replies.
-fn replies_to_changes(rt: &impl Abort, alloc: Global) -> Vec<u8> {
-    let mut replies = Vec::new(alloc);
-    for length in 1..=VERSIONS + NOTES {
-        put(rt, &mut replies, format!(in alloc; "ok {length}\n"));
-    }
-    replies
-}
-
-/// The plans of the twelve words.
-fn plans(rt: &impl Abort, alloc: Global) -> Vec<u8> {
-    let mut script = Vec::from_slice(alloc, b"plan wiki guarantee 3/2\n").expect(rt, "memory");
-    for version in 1..=PLANNED {
-        let word = own_word(alloc, version).expect(rt, "memory");
-        put(
-            rt,
-            &mut script,
-            format!(in alloc; "plan {word} guarantee 1/1\n"),
-        );
-    }
-    script
-}
-
-/// Their replies: `wiki` has one posting up to the horizon, and each own word one of a day, behind which
-/// nothing is read.
-fn replies_to_plans(rt: &impl Abort, alloc: Global) -> Vec<u8> {
-    let mut replies = Vec::from_slice(
+    put_lines(
         alloc,
-        b"plan 241 segments 1 space 1 full 1 horizon 3542400\n",
+        script,
+        "arrive ",
+        (1, NOTES),
+        " 3542400 9\nnote wiki\n",
     )
-    .expect(rt, "memory");
-    for version in 1..=PLANNED {
-        let length = version.wrapping_add(241);
-        put(
-            rt,
-            &mut replies,
-            format!(in alloc; "plan {length} segments 2 space 1 full 1 horizon 3542400\n"),
-        );
-    }
-    replies
 }
 
-/// Each own word is asked for on its day.
-fn questions(rt: &impl Abort, alloc: Global) -> Vec<u8> {
-    let mut script = Vec::new(alloc);
+/// Adds the plans of the twelve words.
+fn put_plans(alloc: Global, script: &mut Vec<u8>) -> Result<(), AllocError> {
+    script.extend_from_slice(b"plan wiki guarantee 3/2\n")?;
+    put_lines(alloc, script, "plan rev0", (1, 9), " guarantee 1/1\n")?;
+    put_lines(alloc, script, "plan rev", (10, 11), " guarantee 1/1\n")
+}
+
+/// Adds the questions: each own word is asked for on its day.
+fn put_questions(alloc: Global, script: &mut Vec<u8>) -> Result<(), AllocError> {
     for version in 1..=ASKED {
-        let word = own_word(alloc, version).expect(rt, "memory");
-        put(
-            rt,
-            &mut script,
-            format!(in alloc; "find {} {word}\n", DAY.wrapping_mul(version)),
-        );
+        let day = DAY.wrapping_mul(version);
+        put_lines(alloc, script, "find ", (day, day), " ")?;
+        put_own_word(alloc, script, version)?;
     }
-    script
+    Ok(())
 }
 
-/// Each is found by one posting.
-fn replies_to_questions(rt: &impl Abort, alloc: Global) -> Vec<u8> {
-    let mut replies = Vec::new(alloc);
+/// All of it as a script.
+fn script(alloc: Global) -> Result<Vec<u8>, AllocError> {
+    let mut script = Vec::new(alloc);
+    put_changes(alloc, &mut script)?;
+    put_plans(alloc, &mut script)?;
+    put_questions(alloc, &mut script)?;
+    script.extend_from_slice(b"find 3542400 wiki\nbetween 86400 3542400 wiki\nverify\n")?;
+    Ok(script)
+}
+
+/// Adds the replies to the changes and to the plans: `wiki` has one posting up to the horizon, and each own word one
+/// of a day, behind which nothing is read.
+fn put_told(alloc: Global, replies: &mut Vec<u8>) -> Result<(), AllocError> {
+    put_lines(alloc, replies, "ok ", (1, VERSIONS + NOTES), "\n")?;
+    replies.extend_from_slice(b"plan 241 segments 1 space 1 full 1 horizon 3542400\n")?;
+    put_lines(
+        alloc,
+        replies,
+        "plan ",
+        (242, 252),
+        " segments 2 space 1 full 1 horizon 3542400\n",
+    )
+}
+
+/// Adds the answers to the questions: each own word is found by one posting.
+fn put_answers(replies: &mut Vec<u8>) -> Result<(), AllocError> {
     for _ in 0..ASKED {
-        replies
-            .extend_from_slice(b"hit 1000 1\nend 1 read 1\n")
-            .expect(rt, "memory");
+        replies.extend_from_slice(b"hit 1000 1\nend 1 read 1\n")?;
     }
-    replies
+    Ok(())
 }
 
-/// What is found of `wiki` on the day of the notes: the page, and each note.
-fn rows_of_wiki(rt: &impl Abort, alloc: Global) -> Vec<u8> {
-    let mut replies = Vec::from_slice(alloc, b"hit 1000 7999\n").expect(rt, "memory");
-    for note in 1..=NOTES {
-        put(rt, &mut replies, format!(in alloc; "hit {note} 1\n"));
-    }
-    replies
-        .extend_from_slice(b"end 201 read 201\n")
-        .expect(rt, "memory");
-    replies
+/// The replies to all of it. On the day of the notes `wiki` is found in the page, and in each note.
+fn replies(alloc: Global) -> Result<Vec<u8>, AllocError> {
+    let mut replies = Vec::new(alloc);
+    put_told(alloc, &mut replies)?;
+    put_answers(&mut replies)?;
+    replies.extend_from_slice(b"hit 1000 7999\n")?;
+    put_lines(alloc, &mut replies, "hit ", (1, NOTES), " 1\n")?;
+    replies.extend_from_slice(
+        b"end 201 read 201\nspan 1000 86400 3542400 7999\nend 1 read 1\nsound 12 23\n",
+    )?;
+    Ok(replies)
 }
 
 #[test]
-fn a_page_of_forty_versions_is_planned_asked_and_sound(rt: HostRuntime) {
+fn a_page_of_forty_versions_is_planned_asked_and_sound(rt: HostRuntime) -> Result<(), RowError> {
     let alloc = rt.alloc();
-    let script = [
-        changes(&rt, alloc).as_slice(),
-        plans(&rt, alloc).as_slice(),
-        questions(&rt, alloc).as_slice(),
-        b"find 3542400 wiki\nbetween 86400 3542400 wiki\nverify\n",
-    ]
-    .concat(alloc)
-    .expect(&rt, "memory");
-    let replies = [
-        replies_to_changes(&rt, alloc).as_slice(),
-        replies_to_plans(&rt, alloc).as_slice(),
-        replies_to_questions(&rt, alloc).as_slice(),
-        rows_of_wiki(&rt, alloc).as_slice(),
-        b"span 1000 86400 3542400 7999\nend 1 read 1\nsound 12 23\n",
-    ]
-    .concat(alloc)
-    .expect(&rt, "memory");
+    let script = script(alloc)?;
+    let replies = replies(alloc)?;
     let row = Row {
         script: &script,
         replies: &replies,
     };
-    let disk = disk_after(alloc, &new_disk(alloc), &row).expect(&rt, "the replies");
-    let check = Row {
-        script: b"verify\n",
-        replies: b"sound 12 23\n",
-    };
-    disk_after(alloc, &disk, &check).expect(&rt, "the replies");
+    let disk = disk_after(alloc, &new_disk(alloc), &row)?;
+    expect_check(alloc, disk, 0, b"sound 12 23\n")
 }
