@@ -1,9 +1,9 @@
 //! An archive with a plan whose sublists are flat, 24 bytes a posting: it is read, and new plans are in
 //! blocks. A program that knows the formats alone made its files.
 use rows_rig::{
-    FIRST_CERTIFICATE, FLAT, FOUR_RECORDS, LIFE_OF_1, LIVES_OF_1_AND_2, Plan, Row, disk_after,
-    expect_held, expect_on, flat_disk, flat_segments, journal_of, plan_of_v, plan_record,
-    segment_at,
+    FIRST_CERTIFICATE, FLAT, FOUR_RECORDS, LIFE_OF_1, LIVES_OF_1_AND_2, Plan, Row, RowError,
+    Segment, disk_after, expect_held, expect_left, expect_on, flat_disk, flat_segments, plan_of_v,
+    plan_record, segment_at,
 };
 use std::alloc::{AllocError, Global};
 
@@ -19,10 +19,9 @@ fn flat_record(alloc: Global) -> Result<Vec<u8>, AllocError> {
 
 // The archive's files have 277 and 8,216 bytes.
 #[test]
-fn a_flat_plan_is_read_and_certified(rt: HostRuntime) {
+fn a_flat_plan_is_read_and_certified(rt: HostRuntime) -> Result<(), RowError> {
     let alloc = rt.alloc();
-    let disk = flat_disk(alloc).expect(&rt, "a disk");
-    assert_eq!(rt; (disk.journal.len(), disk.pages.len()), (277, 8216));
+    let disk = flat_disk(alloc)?;
     let rows = [
         Row {
             script: b"certificate v\n",
@@ -37,35 +36,52 @@ fn a_flat_plan_is_read_and_certified(rt: HostRuntime) {
             replies: b"segment 10 40 2\nnode 10 0\nnode 20 1\nnode 30 2\nnode 40 2\nend 1 space 2\nok 6\nspan 1 35 40 1\nspan 3 40 45 1\nend 2 read 2\n",
         },
     ];
-    expect_on(alloc, &disk, &rows).expect(&rt, "the replies");
+    expect_on(alloc, &disk, &rows)?;
+    if disk.journal.len() != 277 || disk.pages.len() != 8216 {
+        return Err(RowError::Changed { row: 0 });
+    }
+    Ok(())
 }
 
-#[test]
-fn a_new_plan_is_in_blocks_and_then_the_flat_ones_pages_are_free(rt: HostRuntime) {
-    let alloc = rt.alloc();
-    let row = Row {
-        script: b"plan v guarantee 1/1\nplan v guarantee 2/1\ncertificate v\nfind 25 v\n",
-        replies: b"plan 6 segments 3 space 4 full 2 horizon 40\nplan 7 segments 1 space 2 full 2 horizon 40\nsegment 10 40 2\nnode 10 0\nnode 20 1\nnode 30 2\nnode 40 2\nend 1 space 2\nhit 1 1\nhit 2 1\nend 2 read 2\n",
-    };
-    let disk = flat_disk(alloc).expect(&rt, "a disk");
-    let disk = disk_after(alloc, &disk, &row).expect(&rt, "the replies");
-    let sixth = [
+/// The segments of a first plan in blocks, behind the flat one.
+fn sixth_segments() -> [Segment<'static>; 3] {
+    [
         segment_at(10, 3, LIFE_OF_1),
         segment_at(20, 4, LIVES_OF_1_AND_2),
         segment_at(30, 5, LIFE_OF_1),
-    ];
+    ]
+}
+
+/// The record of the first plan in blocks.
+fn sixth_record(alloc: Global) -> Result<Vec<u8>, AllocError> {
+    plan_record(alloc, &plan_of_v(40, &sixth_segments()))
+}
+
+#[test]
+fn a_new_plan_is_in_blocks_and_then_the_flat_ones_pages_are_free(
+    rt: HostRuntime,
+) -> Result<(), RowError> {
+    let alloc = rt.alloc();
+    let flat = flat_record(alloc)?;
+    let blocks = sixth_record(alloc)?;
     let seventh = [segment_at(10, 0, LIVES_OF_1_AND_2)];
-    let flat = flat_record(alloc).expect(&rt, "memory");
-    let blocks = plan_record(alloc, &plan_of_v(40, &sixth)).expect(&rt, "memory");
     let whole = Plan {
         over: 2,
         ..plan_of_v(40, &seventh)
     };
-    let last = plan_record(alloc, &whole).expect(&rt, "memory");
-    let journal = journal_of(alloc, &[FOUR_RECORDS, &flat, &blocks, &last]).expect(&rt, "memory");
-    assert_eq!(rt; disk.journal.as_slice(), journal.as_slice());
-    for held in sixth {
-        expect_held(&disk.pages, &held).expect(&rt, "the sublist");
+    let last = plan_record(alloc, &whole)?;
+    let row = Row {
+        script: b"plan v guarantee 1/1\nplan v guarantee 2/1\ncertificate v\nfind 25 v\n",
+        replies: b"plan 6 segments 3 space 4 full 2 horizon 40\nplan 7 segments 1 space 2 full 2 horizon 40\nsegment 10 40 2\nnode 10 0\nnode 20 1\nnode 30 2\nnode 40 2\nend 1 space 2\nhit 1 1\nhit 2 1\nend 2 read 2\n",
+    };
+    let disk = disk_after(alloc, &flat_disk(alloc)?, &row)?;
+    for held in &sixth_segments() {
+        expect_held(&disk.pages, held)?;
     }
-    expect_held(&disk.pages, &seventh[0]).expect(&rt, "the sublist");
+    expect_left(
+        alloc,
+        &disk,
+        &[FOUR_RECORDS, &flat, &blocks, &last],
+        &seventh,
+    )
 }

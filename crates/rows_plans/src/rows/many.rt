@@ -1,10 +1,9 @@
 //! Plans of thousands of segments.
 use machine_model::Image;
 use rows_rig::{
-    Row, Sublist, disk_after, expect_held, expect_on, many_lives, new_disk, segment_at,
+    Row, RowError, Sublist, disk_after, expect_held, expect_on, many_lives, new_disk, segment_at,
 };
 use std::alloc::Global;
-use std::process::Abort;
 
 /// Document 1 has the word once in [4096, 4097).
 const LAST_OF_2048: Sublist<'static> = Sublist {
@@ -13,37 +12,38 @@ const LAST_OF_2048: Sublist<'static> = Sublist {
         \x01\x88\xca\x4a\x82\xee\x11\x01\xf4\x22\xec\x32\x35\xb7\xa4\x01",
 };
 
-/// The disk that a plan of so many lives leaves, which has this reply. It is read and answers.
-fn expect_many(rt: &impl Abort, alloc: Global, times: u64, reply: &[u8]) -> Image {
-    let (mut script, mut replies) = many_lives(alloc, times).expect(rt, "memory");
-    script
-        .extend_from_slice(b"plan v guarantee 1/1\n")
-        .expect(rt, "memory");
-    replies.extend_from_slice(reply).expect(rt, "memory");
+/// The disk that a plan of so many lives leaves, which has this reply.
+fn many_disk(alloc: Global, times: u64, reply: &[u8]) -> Result<Image, RowError> {
+    let (mut script, mut replies) = many_lives(alloc, times)?;
+    script.extend_from_slice(b"plan v guarantee 1/1\n")?;
+    replies.extend_from_slice(reply)?;
     let row = Row {
         script: &script,
         replies: &replies,
     };
-    let disk = disk_after(alloc, &new_disk(alloc), &row).expect(rt, "the replies");
-    let rows = [Row {
-        script: b"find 2 v\nfind 3 v\nfind 4096 v\nbetween 2 7 v\n",
-        replies: b"hit 1 1\nend 1 read 1\nend 0 read 0\nhit 1 1\nend 1 read 1\nspan 1 2 3 1\nspan 1 4 5 1\nspan 1 6 7 1\nend 3 read 3\n",
-    }];
-    expect_on(alloc, &disk, &rows).expect(rt, "the replies");
-    disk
+    disk_after(alloc, &new_disk(alloc), &row)
 }
+
+/// What is asked of such a disk.
+const QUESTIONS: Row<'static> = Row {
+    script: b"find 2 v\nfind 3 v\nfind 4096 v\nbetween 2 7 v\n",
+    replies: b"hit 1 1\nend 1 read 1\nend 0 read 0\nhit 1 1\nend 1 read 1\nspan 1 2 3 1\nspan 1 4 5 1\nspan 1 6 7 1\nend 3 read 3\n",
+};
 
 // Each life has a page of its own.
 #[test]
-fn a_plan_may_have_4095_segments(rt: HostRuntime) {
+fn a_plan_may_have_4095_segments(rt: HostRuntime) -> Result<(), RowError> {
     let alloc = rt.alloc();
     let reply = b"plan 4097 segments 4095 space 2048 full 2048 horizon 4097\n";
-    let disk = expect_many(&rt, alloc, 2048, reply);
-    expect_held(&disk.pages, &segment_at(4096, 2047, LAST_OF_2048)).expect(&rt, "the sublist");
+    let disk = many_disk(alloc, 2048, reply)?;
+    expect_held(&disk.pages, &segment_at(4096, 2047, LAST_OF_2048))?;
+    expect_on(alloc, &disk, &[QUESTIONS])
 }
 
 #[test]
-fn a_plan_may_have_4097_segments(rt: HostRuntime) {
+fn a_plan_may_have_4097_segments(rt: HostRuntime) -> Result<(), RowError> {
+    let alloc = rt.alloc();
     let reply = b"plan 4099 segments 4097 space 2049 full 2049 horizon 4099\n";
-    expect_many(&rt, rt.alloc(), 2049, reply);
+    let disk = many_disk(alloc, 2049, reply)?;
+    expect_on(alloc, &disk, &[QUESTIONS])
 }

@@ -1,21 +1,29 @@
 //! What plans under a space bound leave in the journal and in Pages.
-use crate::rows::spaces::plans::{four_disk, plan_of};
+use crate::rows::spaces::plans::plan_of;
 use rows_rig::{
     FOUR_CHANGES, FOUR_RECORDS, GAP_CHANGES, GAP_RECORDS, GUARANTEE, LIFE_OF_1, LIVES_OF_1_AND_2,
-    Row, SINCE_30, UNIFORM, disk_after, disk_after_all, expect_entry, expect_left, first_segments,
-    gap_segments, plan_record, segment_at,
+    Plan, Row, RowError, SINCE_30, UNIFORM, disk_after, disk_after_all, expect_entry, expect_left,
+    first_segments, gap_segments, new_disk, plan_record, segment_at,
 };
+use std::alloc::{AllocError, Global};
+
+/// Each of these plans has its reply behind the four changes, and the disk then holds them and the plan.
+fn expect_entries(alloc: Global, rows: &[(Row<'_>, Plan<'_>)]) -> Result<(), RowError> {
+    for (row, plan) in rows {
+        expect_entry(alloc, (FOUR_CHANGES, FOUR_RECORDS), *row, plan)?;
+    }
+    Ok(())
+}
 
 #[test]
-fn a_plan_is_an_entry_with_its_kind_and_factor(rt: HostRuntime) {
-    let alloc = rt.alloc();
+fn a_plan_is_an_entry_with_its_kind_and_factor(rt: HostRuntime) -> Result<(), RowError> {
     let one = [segment_at(10, 0, LIVES_OF_1_AND_2)];
     let two = [
         segment_at(10, 0, LIVES_OF_1_AND_2),
         segment_at(30, 1, LIFE_OF_1),
     ];
     let three = first_segments();
-    for (row, plan) in [
+    let rows = [
         (
             Row {
                 script: b"plan v space 1/1 uniform\n",
@@ -45,21 +53,19 @@ fn a_plan_is_an_entry_with_its_kind_and_factor(rt: HostRuntime) {
             },
             plan_of(UNIFORM, 4, 2, &three),
         ),
-    ] {
-        expect_entry(alloc, (FOUR_CHANGES, FOUR_RECORDS), row, &plan).expect(&rt, "the disk");
-    }
+    ];
+    expect_entries(rt.alloc(), &rows)
 }
 
 #[test]
-fn a_gap_has_no_bytes_and_the_digest_of_nothing(rt: HostRuntime) {
-    let alloc = rt.alloc();
+fn a_gap_has_no_bytes_and_the_digest_of_nothing(rt: HostRuntime) -> Result<(), RowError> {
     let row = Row {
         script: b"plan v space 1/1 uniform\n",
         replies: b"plan 5 segments 3 space 2 full 2 horizon 40 cost 20\n",
     };
     let segments = gap_segments();
     let plan = plan_of(UNIFORM, 1, 1, &segments);
-    expect_entry(alloc, (GAP_CHANGES, GAP_RECORDS), row, &plan).expect(&rt, "the disk");
+    expect_entry(rt.alloc(), (GAP_CHANGES, GAP_RECORDS), row, &plan)
 }
 
 /// Plans behind the four changes, each in the place of the one before it.
@@ -86,9 +92,34 @@ const FIVE_PLANS: [Row<'static>; 5] = [
     },
 ];
 
+/// All of them in one run.
+const FIVE_IN_ONE: Row<'static> = Row {
+    script: b"plan v guarantee 1/1\nplan v space 1/1 uniform\nplan v guarantee 2/1\nplan v space 2/1 uniform\nplan v guarantee 1/1\n",
+    replies: b"plan 5 segments 3 space 4 full 2 horizon 40\nplan 6 segments 1 space 2 full 2 horizon 40 cost 60\nplan 7 segments 1 space 2 full 2 horizon 40\nplan 8 segments 3 space 4 full 2 horizon 40 cost 40\nplan 9 segments 3 space 4 full 2 horizon 40\n",
+};
+
+/// Adds the record of a plan.
+fn put_record(alloc: Global, records: &mut Vec<u8>, plan: &Plan<'_>) -> Result<(), AllocError> {
+    let record = plan_record(alloc, plan)?;
+    records.extend_from_slice(&record)
+}
+
+/// Plans have their replies behind the four changes, one behind the other, and each leaves its record and its
+/// sublists. Answers all records.
+fn expect_turns(alloc: Global, rows: &[(Row<'_>, Plan<'_>)]) -> Result<Vec<u8>, RowError> {
+    let mut disk = disk_after(alloc, &new_disk(alloc), &FOUR_CHANGES)?;
+    let mut records = Vec::from_slice(alloc, FOUR_RECORDS)?;
+    for (row, plan) in rows {
+        disk = disk_after(alloc, &disk, row)?;
+        put_record(alloc, &mut records, plan)?;
+        expect_left(alloc, &disk, &[&records], plan.segments)?;
+    }
+    Ok(records)
+}
+
 // A plan lives while the next one is written, and its pages are free behind that one.
 #[test]
-fn the_pages_of_a_plan_of_another_kind_are_free_again(rt: HostRuntime) {
+fn the_pages_of_a_plan_of_another_kind_are_free_again(rt: HostRuntime) -> Result<(), RowError> {
     let alloc = rt.alloc();
     let fifth = first_segments();
     let sixth = [segment_at(10, 3, LIVES_OF_1_AND_2)];
@@ -103,60 +134,54 @@ fn the_pages_of_a_plan_of_another_kind_are_free_again(rt: HostRuntime) {
         segment_at(20, 4, LIVES_OF_1_AND_2),
         segment_at(30, 5, LIFE_OF_1),
     ];
-    let mut disk = four_disk(&rt, alloc);
-    let mut records = Vec::from_slice(alloc, FOUR_RECORDS).expect(&rt, "memory");
-    for (row, plan) in FIVE_PLANS.into_iter().zip([
-        plan_of(GUARANTEE, 1, 1, &fifth),
-        plan_of(UNIFORM, 1, 1, &sixth),
-        plan_of(GUARANTEE, 2, 1, &seventh),
-        plan_of(UNIFORM, 2, 1, &eighth),
-        plan_of(GUARANTEE, 1, 1, &ninth),
-    ]) {
-        disk = disk_after(alloc, &disk, &row).expect(&rt, "the replies");
-        let record = plan_record(alloc, &plan).expect(&rt, "memory");
-        records.extend_from_slice(&record).expect(&rt, "memory");
-        expect_left(alloc, &disk, &[&records], plan.segments).expect(&rt, "the disk");
-    }
+    let [first, second, third, fourth, last] = FIVE_PLANS;
+    let rows = [
+        (first, plan_of(GUARANTEE, 1, 1, &fifth)),
+        (second, plan_of(UNIFORM, 1, 1, &sixth)),
+        (third, plan_of(GUARANTEE, 2, 1, &seventh)),
+        (fourth, plan_of(UNIFORM, 2, 1, &eighth)),
+        (last, plan_of(GUARANTEE, 1, 1, &ninth)),
+    ];
+    let records = expect_turns(alloc, &rows)?;
     // and in one run
-    let mut script = Vec::new(alloc);
-    let mut replies = Vec::new(alloc);
-    for row in FIVE_PLANS {
-        script.extend_from_slice(row.script).expect(&rt, "memory");
-        replies.extend_from_slice(row.replies).expect(&rt, "memory");
+    let left = disk_after_all(alloc, new_disk(alloc), &[FOUR_CHANGES, FIVE_IN_ONE])?;
+    expect_left(alloc, &left, &[&records], &ninth)
+}
+
+/// Plans in the place of their like.
+const LIKES: [Row<'static>; 3] = [
+    FOUR_CHANGES,
+    Row {
+        script: b"plan v space 1/1 uniform\n",
+        replies: b"plan 5 segments 1 space 2 full 2 horizon 40 cost 60\n",
+    },
+    Row {
+        script: b"plan v space 1/1 since 30\nplan v space 1/1 uniform\n",
+        replies: b"plan 6 segments 1 space 2 full 2 horizon 40 cost 20\nplan 7 segments 1 space 2 full 2 horizon 40 cost 60\n",
+    },
+];
+
+/// The records of the four changes and of these plans.
+fn records_of(alloc: Global, plans: &[Plan<'_>]) -> Result<Vec<u8>, AllocError> {
+    let mut records = Vec::from_slice(alloc, FOUR_RECORDS)?;
+    for plan in plans {
+        put_record(alloc, &mut records, plan)?;
     }
-    let row = Row {
-        script: &script,
-        replies: &replies,
-    };
-    let left = disk_after(alloc, &four_disk(&rt, alloc), &row).expect(&rt, "the replies");
-    expect_left(alloc, &left, &[&records], &ninth).expect(&rt, "the disk");
+    Ok(records)
 }
 
 // What is left can be planned further.
 #[test]
-fn a_plan_in_the_place_of_its_like_takes_turns_with_it(rt: HostRuntime) {
+fn a_plan_in_the_place_of_its_like_takes_turns_with_it(rt: HostRuntime) -> Result<(), RowError> {
     let alloc = rt.alloc();
-    let rows = [
-        Row {
-            script: b"plan v space 1/1 uniform\n",
-            replies: b"plan 5 segments 1 space 2 full 2 horizon 40 cost 60\n",
-        },
-        Row {
-            script: b"plan v space 1/1 since 30\nplan v space 1/1 uniform\n",
-            replies: b"plan 6 segments 1 space 2 full 2 horizon 40 cost 20\nplan 7 segments 1 space 2 full 2 horizon 40 cost 60\n",
-        },
-    ];
-    let disk = disk_after_all(alloc, four_disk(&rt, alloc), &rows).expect(&rt, "the replies");
     let even = [segment_at(10, 0, LIVES_OF_1_AND_2)];
     let odd = [segment_at(10, 1, LIVES_OF_1_AND_2)];
-    let mut records = Vec::from_slice(alloc, FOUR_RECORDS).expect(&rt, "memory");
-    for plan in [
+    let plans = [
         plan_of(UNIFORM, 1, 1, &even),
         plan_of(SINCE_30, 1, 1, &odd),
         plan_of(UNIFORM, 1, 1, &even),
-    ] {
-        let record = plan_record(alloc, &plan).expect(&rt, "memory");
-        records.extend_from_slice(&record).expect(&rt, "memory");
-    }
-    expect_left(alloc, &disk, &[&records], &even).expect(&rt, "the disk");
+    ];
+    let records = records_of(alloc, &plans)?;
+    let disk = disk_after_all(alloc, new_disk(alloc), &LIKES)?;
+    expect_left(alloc, &disk, &[&records], &even)
 }

@@ -3,10 +3,7 @@
 //! The word's list is document 1 in [10, 40) and document 2 in [20, 30), so the boundaries are 10, 20, 30 and
 //! 40. A segment has 2 postings, but [10, 20) and [30, 40) have 1. So one segment takes 2, two take 3, and
 //! three take 4.
-use machine_model::Image;
-use rows_rig::{BLOCKS, FOUR_CHANGES, Plan, Row, Segment, disk_after_all, new_disk};
-use std::alloc::Global;
-use std::process::Abort;
+use rows_rig::{BLOCKS, Plan, Segment};
 
 /// What is asked of the word's list, before it, in it and behind it, at times and over windows.
 pub(crate) const QUESTIONS: &[u8] =
@@ -27,16 +24,6 @@ pub(crate) const BY_TWO: &[u8] =
 /// What is answered by three segments.
 pub(crate) const BY_THREE: &[u8] =
     b"end 0 read 0\nhit 1 1\nend 1 read 1\nhit 1 1\nend 1 read 1\nhit 1 1\nhit 2 1\nend 2 read 2\nhit 1 1\nend 1 read 1\nend 0 read 0\nend 0 read 0\nspan 1 15 35 1\nspan 2 20 30 1\nend 2 read 4\nspan 1 30 40 1\nend 1 read 1\n";
-
-/// The disk after the four changes.
-pub(crate) fn four_disk(rt: &impl Abort, alloc: Global) -> Image {
-    disk_after_all(alloc, new_disk(alloc), &[FOUR_CHANGES]).expect(rt, "the replies")
-}
-
-/// The disk after the four changes and a plan.
-pub(crate) fn planned_disk(rt: &impl Abort, alloc: Global, plan: Row<'_>) -> Image {
-    disk_after_all(alloc, new_disk(alloc), &[FOUR_CHANGES, plan]).expect(rt, "the replies")
-}
 
 /// A plan up to the last time as an entry, in blocks.
 pub(crate) fn plan_of<'a>(

@@ -1,10 +1,8 @@
 //! What can't be planned under a space bound, and why.
-use crate::rows::spaces::plans::four_disk;
-use rows_rig::{FIRST_PLAN, Row, disk_after, expect_on, new_disk};
+use rows_rig::{FOUR_CHANGES, Row, RowError, expect_behind, expect_kept, expect_rows, first_disk};
 
 #[test]
-fn what_can_not_be_planned_is_refused_in_order(rt: HostRuntime) {
-    let alloc = rt.alloc();
+fn what_can_not_be_planned_is_refused_in_order(rt: HostRuntime) -> Result<(), RowError> {
     let rows = [
         // an archive without entries
         Row {
@@ -27,12 +25,11 @@ fn what_can_not_be_planned_is_refused_in_order(rt: HostRuntime) {
             replies: b"ok 1\nok 2\nok 3\nplan 4 segments 2 space 1 full 1 horizon 40 cost 10\nno 8 NothingSealed\n",
         },
     ];
-    expect_on(alloc, &new_disk(alloc), &rows).expect(&rt, "the replies");
+    expect_rows(rt.alloc(), b"", &rows)
 }
 
 #[test]
-fn a_line_that_is_no_plan_is_no_command(rt: HostRuntime) {
-    let alloc = rt.alloc();
+fn a_line_that_is_no_plan_is_no_command(rt: HostRuntime) -> Result<(), RowError> {
     let rows = [
         // no factor
         Row {
@@ -55,18 +52,16 @@ fn a_line_that_is_no_plan_is_no_command(rt: HostRuntime) {
             replies: b"no 1 Line\nno 1 Line\nno 1 Line\n",
         },
     ];
-    expect_on(alloc, &four_disk(&rt, alloc), &rows).expect(&rt, "the replies");
+    expect_behind(rt.alloc(), &[FOUR_CHANGES], &rows)
 }
 
 #[test]
-fn a_refused_plan_leaves_the_disk_as_it_is(rt: HostRuntime) {
+fn a_refused_plan_leaves_the_disk_as_it_is(rt: HostRuntime) -> Result<(), RowError> {
     let alloc = rt.alloc();
-    let disk = disk_after(alloc, &four_disk(&rt, alloc), &FIRST_PLAN).expect(&rt, "the replies");
+    let disk = first_disk(alloc)?;
     let row = Row {
         script: b"plan x-y space 1/1 uniform\nplan moon space 1/1 since 30\nplan v space 1/2 uniform\n",
         replies: b"no 7 NotOneTerm\nno 13 UnknownWord\nno 1 Line\n",
     };
-    let left = disk_after(alloc, &disk, &row).expect(&rt, "the replies");
-    assert_eq!(rt; left.journal.as_slice(), disk.journal.as_slice());
-    assert_eq!(rt; left.pages.as_slice(), disk.pages.as_slice());
+    expect_kept(alloc, &disk, &row)
 }

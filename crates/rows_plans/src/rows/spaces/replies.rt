@@ -1,9 +1,11 @@
 //! What is answered: plans under a space bound, and questions of their words.
-use crate::rows::spaces::plans::{BY_ONE, BY_THREE, BY_TWO, QUESTIONS, WITHOUT_A_PLAN, four_disk};
+use crate::rows::spaces::plans::{BY_ONE, BY_THREE, BY_TWO, QUESTIONS, WITHOUT_A_PLAN};
 use machine_model::Image;
-use rows_rig::{Row, disk_after, disk_after_all, expect_on, join, new_disk};
+use rows_rig::{
+    FOUR_CHANGES, Row, RowError, disk_after, expect_behind, expect_in_order, expect_on, join,
+    new_disk,
+};
 use std::alloc::Global;
-use std::process::Abort;
 
 /// What a plan under a space bound answers when its certificate is asked for.
 const NO_CERTIFICATE: Row<'static> = Row {
@@ -11,42 +13,40 @@ const NO_CERTIFICATE: Row<'static> = Row {
     replies: b"no 14 NoPlan\n",
 };
 
-/// A plan has its reply on the disk, and then no certificate, and the questions have these answers; also when
-/// the disk that it leaves is loaded.
-fn expect_planned<'x>(
-    rt: &impl Abort,
+/// A plan, a question for its certificate and the questions in one run, with these answers.
+fn disk_planned<'x>(
     alloc: Global,
     disk: &Image,
     plan: &Row<'x>,
     answers: &'x [u8],
-) {
-    let script = join(alloc, &[plan.script, NO_CERTIFICATE.script, QUESTIONS]).expect(rt, "memory");
-    let replies = join(alloc, &[plan.replies, NO_CERTIFICATE.replies, answers]).expect(
-        rt, "memory",
-    );
+) -> Result<Image, RowError> {
+    let script = join(alloc, &[plan.script, NO_CERTIFICATE.script, QUESTIONS])?;
+    let replies = join(alloc, &[plan.replies, NO_CERTIFICATE.replies, answers])?;
     let whole = Row {
         script: &script,
         replies: &replies,
     };
-    let left = disk_after(alloc, disk, &whole).expect(rt, "the replies");
+    disk_after(alloc, disk, &whole)
+}
+
+/// Each of these plans has its reply behind the four changes, and then no certificate, and the questions have these
+/// answers; also when the disk that it leaves is loaded.
+fn expect_each<'x>(alloc: Global, plans: &[Row<'x>], answers: &'x [u8]) -> Result<(), RowError> {
     let questions = Row {
         script: QUESTIONS,
         replies: answers,
     };
-    expect_on(alloc, &left, &[questions, NO_CERTIFICATE]).expect(rt, "the replies");
-}
-
-/// The same of each of these plans behind the four changes.
-fn expect_each<'x>(rt: &impl Abort, alloc: Global, plans: &[Row<'x>], answers: &'x [u8]) {
-    let disk = four_disk(rt, alloc);
+    let rows = [questions, NO_CERTIFICATE];
+    let disk = disk_after(alloc, &new_disk(alloc), &FOUR_CHANGES)?;
     for plan in plans {
-        expect_planned(rt, alloc, &disk, plan, answers);
+        let left = disk_planned(alloc, &disk, plan, answers)?;
+        expect_on(alloc, &left, &rows)?;
     }
+    Ok(())
 }
 
 #[test]
-fn without_a_plan_the_whole_list_is_read(rt: HostRuntime) {
-    let alloc = rt.alloc();
+fn without_a_plan_the_whole_list_is_read(rt: HostRuntime) -> Result<(), RowError> {
     let rows = [
         Row {
             script: QUESTIONS,
@@ -54,12 +54,12 @@ fn without_a_plan_the_whole_list_is_read(rt: HostRuntime) {
         },
         NO_CERTIFICATE,
     ];
-    expect_on(alloc, &four_disk(&rt, alloc), &rows).expect(&rt, "the replies");
+    expect_behind(rt.alloc(), &[FOUR_CHANGES], &rows)
 }
 
 // The bound is the list's size, which one segment alone keeps. Its cost is 2 for each second that is asked for.
 #[test]
-fn one_segment_is_all_that_the_list_itself_allows(rt: HostRuntime) {
+fn one_segment_is_all_that_the_list_itself_allows(rt: HostRuntime) -> Result<(), RowError> {
     let plans = [
         Row {
             script: b"plan v space 1/1 uniform\n",
@@ -102,13 +102,13 @@ fn one_segment_is_all_that_the_list_itself_allows(rt: HostRuntime) {
             replies: b"plan 5 segments 1 space 2 full 2 horizon 40 cost 60\n",
         },
     ];
-    expect_each(&rt, rt.alloc(), &plans, BY_ONE);
+    expect_each(rt.alloc(), &plans, BY_ONE)
 }
 
 // The best of two segments meet at 30 where less is asked for before 20 than behind 30. The other two, which meet
 // at 20, read 1 before 20 and 2 behind 30.
 #[test]
-fn two_segments_meet_where_reads_cost_least(rt: HostRuntime) {
+fn two_segments_meet_where_reads_cost_least(rt: HostRuntime) -> Result<(), RowError> {
     let plans = [
         Row {
             script: b"plan v space 3/2 since 30\n",
@@ -127,11 +127,11 @@ fn two_segments_meet_where_reads_cost_least(rt: HostRuntime) {
             replies: b"plan 5 segments 2 space 3 full 2 horizon 40 cost 40\n",
         },
     ];
-    expect_each(&rt, rt.alloc(), &plans, BY_TWO);
+    expect_each(rt.alloc(), &plans, BY_TWO)
 }
 
 #[test]
-fn three_segments_are_read_at_the_least_cost(rt: HostRuntime) {
+fn three_segments_are_read_at_the_least_cost(rt: HostRuntime) -> Result<(), RowError> {
     let plans = [
         Row {
             script: b"plan v space 2/1 uniform\n",
@@ -147,13 +147,12 @@ fn three_segments_are_read_at_the_least_cost(rt: HostRuntime) {
             replies: b"plan 5 segments 3 space 4 full 2 horizon 40 cost 40\n",
         },
     ];
-    expect_each(&rt, rt.alloc(), &plans, BY_THREE);
+    expect_each(rt.alloc(), &plans, BY_THREE)
 }
 
 // The segments meet at 20 or at 30, which is as good. Where both have been read, the sublists of both were.
 #[test]
-fn of_two_plans_that_are_best_either_is_stored(rt: HostRuntime) {
-    let alloc = rt.alloc();
+fn of_two_plans_that_are_best_either_is_stored(rt: HostRuntime) -> Result<(), RowError> {
     let plan = Row {
         script: b"plan v space 3/2 uniform\ncertificate v\n",
         replies: b"plan 5 segments 2 space 3 full 2 horizon 40 cost 50\nno 14 NoPlan\n",
@@ -162,18 +161,13 @@ fn of_two_plans_that_are_best_either_is_stored(rt: HostRuntime) {
         script: b"find 5 v\nfind 25 v\nfind 40 v\nbetween 15 35 v\nbetween 10 40 v\n",
         replies: b"end 0 read 0\nhit 1 1\nhit 2 1\nend 2 read 2\nend 0 read 0\nspan 1 15 35 1\nspan 2 20 30 1\nend 2 read 3\nspan 1 10 40 1\nspan 2 20 30 1\nend 2 read 3\n",
     };
-    disk_after_all(
-        alloc,
-        four_disk(&rt, alloc),
-        &[plan, questions, NO_CERTIFICATE],
-    )
-    .expect(&rt, "the replies");
+    let rows = [FOUR_CHANGES, plan, questions, NO_CERTIFICATE];
+    expect_in_order(rt.alloc(), &rows)
 }
 
 // Document 1 has the word in [10, 20) and in [30, 40), and nobody has it between these.
 #[test]
-fn a_gap_costs_nothing_and_takes_no_space(rt: HostRuntime) {
-    let alloc = rt.alloc();
+fn a_gap_costs_nothing_and_takes_no_space(rt: HostRuntime) -> Result<(), RowError> {
     let rows = [
         Row {
             script: b"arrive 1 10 1\nv\ndelete 1 20\narrive 1 30 1\nv\ndelete 1 40\nplan v space 1/1 uniform\n",
@@ -184,13 +178,12 @@ fn a_gap_costs_nothing_and_takes_no_space(rt: HostRuntime) {
             replies: b"hit 1 1\nend 1 read 1\nend 0 read 0\nhit 1 1\nend 1 read 1\nspan 1 15 20 1\nspan 1 30 35 1\nend 2 read 2\n",
         },
     ];
-    disk_after_all(alloc, new_disk(alloc), &rows).expect(&rt, "the replies");
+    expect_in_order(rt.alloc(), &rows)
 }
 
 // The word `v` has one posting up to 30, and the word `w` two.
 #[test]
-fn words_have_plans_of_different_kinds(rt: HostRuntime) {
-    let alloc = rt.alloc();
+fn words_have_plans_of_different_kinds(rt: HostRuntime) -> Result<(), RowError> {
     let rows = [
         Row {
             script: b"arrive 1 10 3\nv w\narrive 2 20 1\nw\ndelete 1 30\nplan v space 1/1 uniform\nplan w guarantee 2/1\n",
@@ -201,5 +194,5 @@ fn words_have_plans_of_different_kinds(rt: HostRuntime) {
             replies: b"no 14 NoPlan\nsegment 10 30 2\nnode 10 0\nnode 20 1\nnode 30 2\nend 1 space 2\nhit 1 1\nend 1 read 1\nhit 1 1\nhit 2 1\nend 2 read 2\nhit 1 2\nend 1 read 3\n",
         },
     ];
-    disk_after_all(alloc, new_disk(alloc), &rows).expect(&rt, "the replies");
+    expect_in_order(rt.alloc(), &rows)
 }

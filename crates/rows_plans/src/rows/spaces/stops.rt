@@ -1,52 +1,46 @@
 //! What a stop may leave of a run that stores a plan under a space bound: after each device call, and within
 //! the load that follows.
-use crate::rows::spaces::plans::{four_disk, planned_disk};
-use machine_mem::{MemMachine, Tail};
+use machine_mem::MemMachine;
 use machine_model::Image;
 use rows_rig::{
-    EXTRAS, FILLS, Row, copy_image, expect_entries, machine_after, machine_on, pick_image, run_on,
-    whole_images,
+    FOUR_CHANGES, Row, RowError, TAILS, copy_image, disk_after_all, expect_end, expect_moments,
+    machine_after, machine_on, new_disk, pick_image, run_on, whole_images,
 };
 use run_script::Status;
 use std::alloc::Global;
-use std::process::Abort;
+use std::ops::Range;
+
+/// A plan behind the four changes has its reply, and a stop leaves so many entries.
+fn expect_stops(
+    alloc: Global,
+    plan: &Row<'_>,
+    moments: &[(Range<usize>, u64, u64)],
+) -> Result<(), RowError> {
+    let disk = disk_after_all(alloc, new_disk(alloc), &[FOUR_CHANGES])?;
+    let machine = machine_after(alloc, disk, plan)?;
+    expect_moments(alloc, &machine, moments)
+}
 
 // The load syncs. The sublists are written and synced, and then the entry is appended: it is written
 // behind the closed gate and synced, and the gate is opened and synced. At last the reply is shown.
 #[test]
-fn an_entry_is_there_when_its_gate_is_open(rt: HostRuntime) {
+fn an_entry_is_there_when_its_gate_is_open(rt: HostRuntime) -> Result<(), RowError> {
     let alloc = rt.alloc();
-    for (row, opens) in [
-        (
-            Row {
-                script: b"plan v space 2/1 uniform\n",
-                replies: b"plan 5 segments 3 space 4 full 2 horizon 40 cost 40\n",
-            },
-            8usize,
-        ),
-        (
-            Row {
-                script: b"plan v space 3/2 since 30\n",
-                replies: b"plan 5 segments 2 space 3 full 2 horizon 40 cost 10\n",
-            },
-            7,
-        ),
-        (
-            Row {
-                script: b"plan v space 1/1 uniform\n",
-                replies: b"plan 5 segments 1 space 2 full 2 horizon 40 cost 60\n",
-            },
-            6,
-        ),
-    ] {
-        let machine = machine_after(alloc, four_disk(&rt, alloc), &row).expect(&rt, "the replies");
-        assert_eq!(rt; machine.moments(), opens.saturating_add(3));
-        for moment in 0..machine.moments() {
-            let least = if moment <= opens { 4 } else { 5 };
-            let most = if moment < opens { 4 } else { 5 };
-            expect_entries(alloc, &machine, moment, least, most).expect(&rt, "the entries");
-        }
-    }
+    let three = Row {
+        script: b"plan v space 2/1 uniform\n",
+        replies: b"plan 5 segments 3 space 4 full 2 horizon 40 cost 40\n",
+    };
+    expect_stops(alloc, &three, &[(0..8, 4, 4), (8..9, 4, 5), (9..11, 5, 5)])?;
+    let two = Row {
+        script: b"plan v space 3/2 since 30\n",
+        replies: b"plan 5 segments 2 space 3 full 2 horizon 40 cost 10\n",
+    };
+    expect_stops(alloc, &two, &[(0..7, 4, 4), (7..8, 4, 5), (8..10, 5, 5)])?;
+    let one = Row {
+        script: b"plan v space 1/1 uniform\n",
+        replies: b"plan 5 segments 1 space 2 full 2 horizon 40 cost 60\n",
+    };
+    expect_stops(alloc, &one, &[(0..6, 4, 4), (6..7, 4, 5), (7..9, 5, 5)])
 }
 
 /// A plan that keeps to a guarantee, with one segment.
@@ -74,57 +68,93 @@ const BY_NEW: &[u8] =
     b"hit 1 1\nend 1 read 1\nhit 1 1\nhit 2 1\nend 2 read 2\nno 14 NoPlan\nspan 1 15 35 1\nspan 2 20 30 1\nend 2 read 4\nok 7\nplan 8 segments 2 space 2 full 2 horizon 100 cost 60\nhit 1 1\nhit 2 1\nend 2 read 2\n";
 
 /// The disk answers by the new plan, or else by the old one.
-fn has_new_plan(rt: &impl Abort, alloc: Global, disk: Image) -> bool {
-    let mut machine = machine_on(alloc, QUESTIONS, disk, &[]).expect(rt, "a machine");
-    assert_eq!(rt;
-        run_on(alloc, &mut machine).expect(rt, "a run"),
-        Status::Done
-    );
-    if machine.shown() == BY_NEW {
-        return true;
+fn has_new_plan(alloc: Global, disk: Image) -> Result<bool, RowError> {
+    let mut machine = machine_on(alloc, QUESTIONS, disk, &[])?;
+    answers_by_new(alloc, &mut machine)
+}
+
+/// The same of the disk of a machine with these questions.
+fn answers_by_new(alloc: Global, machine: &mut MemMachine) -> Result<bool, RowError> {
+    let status = run_on(alloc, machine)?;
+    if status != Status::Done {
+        return Err(RowError::Status { row: 0, status });
     }
-    assert_eq!(rt; machine.shown(), BY_OLD);
-    false
+    let is_new = machine.shown() == BY_NEW;
+    if !is_new && machine.shown() != BY_OLD {
+        let shown = Vec::from_slice(alloc, machine.shown())?;
+        return Err(RowError::Replies { row: 0, shown });
+    }
+    Ok(is_new)
 }
 
 /// The machine on which the new plan took the old one's place.
-fn replaced(rt: &impl Abort, alloc: Global) -> MemMachine {
-    machine_after(alloc, planned_disk(rt, alloc, OLD_PLAN), &NEW_PLAN).expect(rt, "the replies")
+fn replaced(alloc: Global) -> Result<MemMachine, RowError> {
+    let disk = disk_after_all(alloc, new_disk(alloc), &[FOUR_CHANGES, OLD_PLAN])?;
+    machine_after(alloc, disk, &NEW_PLAN)
+}
+
+/// Each image that a stop may leave at a moment answers by one of these plans.
+fn expect_plan_at(
+    alloc: Global,
+    machine: &MemMachine,
+    moment: usize,
+    wanted: &[bool],
+) -> Result<(), RowError> {
+    for tail in &TAILS {
+        let picked = pick_image(alloc, machine, moment, *tail)?;
+        let is_new = has_new_plan(alloc, picked.image)?;
+        if !wanted.contains(&is_new) {
+            return Err(RowError::Entries {
+                moment,
+                tail: *tail,
+                entries: if is_new { 6 } else { 5 },
+            });
+        }
+    }
+    Ok(())
 }
 
 // The gate is opened by the eighth call. While that one's bytes are pending, either plan may be there.
 #[test]
-fn a_stop_leaves_the_old_plan_or_the_new_one(rt: HostRuntime) {
+fn a_stop_leaves_the_old_plan_or_the_new_one(rt: HostRuntime) -> Result<(), RowError> {
     let alloc = rt.alloc();
-    let machine = replaced(&rt, alloc);
-    assert_eq!(rt; machine.moments(), 11);
-    for moment in 0..machine.moments() {
-        for fill in FILLS {
-            for extra in EXTRAS {
-                let picked = pick_image(alloc, &machine, moment, Tail { extra, fill }).expect(
-                    &rt, "an image",
-                );
-                let is_new = has_new_plan(&rt, alloc, picked.image);
-                assert!(rt; moment == 8 || is_new == (moment > 8), "{moment}");
-            }
+    let machine = replaced(alloc)?;
+    for moment in 0..8 {
+        expect_plan_at(alloc, &machine, moment, &[false])?;
+    }
+    expect_plan_at(alloc, &machine, 8, &[false, true])?;
+    for moment in 9..11 {
+        expect_plan_at(alloc, &machine, moment, &[true])?;
+    }
+    if machine.moments() != 11 {
+        return Err(RowError::Moments {
+            moments: machine.moments(),
+        });
+    }
+    Ok(())
+}
+
+/// Each image that a stop may leave of the load of this disk answers by the same plan as the disk.
+fn expect_same(alloc: Global, image: Image) -> Result<(), RowError> {
+    let is_new = has_new_plan(alloc, copy_image(alloc, &image)?)?;
+    let mut load = machine_on(alloc, b"", image, &[])?;
+    expect_end(alloc, &mut load, 0, Status::Done, b"")?;
+    for left in whole_images(alloc, &load)? {
+        if has_new_plan(alloc, left)? != is_new {
+            return Err(RowError::Changed { row: 0 });
         }
     }
+    Ok(())
 }
 
 #[test]
-fn a_stop_inside_the_load_that_follows_leaves_the_same_plan(rt: HostRuntime) {
+fn a_stop_inside_the_load_that_follows_leaves_the_same_plan(
+    rt: HostRuntime,
+) -> Result<(), RowError> {
     let alloc = rt.alloc();
-    let machine = replaced(&rt, alloc);
-    for image in whole_images(alloc, &machine).expect(&rt, "the images") {
-        let is_new = has_new_plan(&rt, alloc, copy_image(alloc, &image).expect(&rt, "memory"));
-        let mut second = machine_on(alloc, b"", image, &[]).expect(&rt, "a machine");
-        assert_eq!(rt;
-            run_on(alloc, &mut second).expect(&rt, "a run"),
-            Status::Done
-        );
-        // Each image that a stop may leave of this load answers by the same plan.
-        for left in whole_images(alloc, &second).expect(&rt, "the images") {
-            assert_eq!(rt; has_new_plan(&rt, alloc, left), is_new);
-        }
+    let machine = replaced(alloc)?;
+    for image in whole_images(alloc, &machine)? {
+        expect_same(alloc, image)?;
     }
+    Ok(())
 }
