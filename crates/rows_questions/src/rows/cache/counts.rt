@@ -2,52 +2,47 @@
 //!
 //! The first plan's sublists have 18, 22 and 18 bytes in the pages 0, 1 and 2.
 use crate::rows::cache::steps::{
-    BOTH, ONE, Step, expect_same, expect_steps, find_15, find_25, find_35, over, step_of,
+    BOTH, ONE, Step, expect_questions, expect_steps, find_15, find_25, find_35, over, step_of,
 };
-use rows_rig::{FIRST_CERTIFICATE, first_disk, flat_disk};
+use rows_rig::{FIRST_CERTIFICATE, RowError, first_disk, flat_disk};
 
 #[test]
-fn a_sublist_is_read_once(rt: HostRuntime) {
+fn a_sublist_is_read_once(rt: HostRuntime) -> Result<(), RowError> {
     let alloc = rt.alloc();
-    let disk = first_disk(alloc).expect(&rt, "a disk");
-    for steps in [
-        [find_15(18), find_15(0), find_25(22)].as_slice(),
-        [find_15(18), over(40), find_35(0)].as_slice(),
-        [over(58), over(0), find_35(0), find_25(0), find_15(0)].as_slice(),
-        [find_25(22), over(36), find_35(0), over(0)].as_slice(),
-    ] {
-        let left = expect_steps(&rt, alloc, &disk, steps);
-        expect_same(&rt, &left, &disk);
-    }
+    let disk = first_disk(alloc)?;
+    let rows: [&[Step<'_>]; 4] = [
+        &[find_15(18), find_15(0), find_25(22)],
+        &[find_15(18), over(40), find_35(0)],
+        &[over(58), over(0), find_35(0), find_25(0), find_15(0)],
+        &[find_25(22), over(36), find_35(0), over(0)],
+    ];
+    expect_questions(alloc, &disk, &rows)
 }
 
 // A posting has 24 bytes.
 #[test]
-fn a_flat_sublist_is_read_once(rt: HostRuntime) {
+fn a_flat_sublist_is_read_once(rt: HostRuntime) -> Result<(), RowError> {
     let alloc = rt.alloc();
-    let disk = flat_disk(alloc).expect(&rt, "a disk");
-    for steps in [
-        [find_15(24), find_15(0), find_25(48)].as_slice(),
-        [find_15(24), over(72), find_35(0)].as_slice(),
-        [over(96), over(0), find_25(0)].as_slice(),
-    ] {
-        let left = expect_steps(&rt, alloc, &disk, steps);
-        expect_same(&rt, &left, &disk);
-    }
+    let disk = flat_disk(alloc)?;
+    let rows: [&[Step<'_>]; 3] = [
+        &[find_15(24), find_15(0), find_25(48)],
+        &[find_15(24), over(72), find_35(0)],
+        &[over(96), over(0), find_25(0)],
+    ];
+    expect_questions(alloc, &disk, &rows)
 }
 
 // A word that stands twice in a query is read once, and a word without a plan not from Pages.
 #[test]
-fn a_query_asks_for_the_pages_of_each_planned_word(rt: HostRuntime) {
+fn a_query_asks_for_the_pages_of_each_planned_word(rt: HostRuntime) -> Result<(), RowError> {
     let alloc = rt.alloc();
-    let disk = first_disk(alloc).expect(&rt, "a disk");
+    let disk = first_disk(alloc)?;
     let steps = [
         step_of(b"find 15 v v\n", ONE, 18),
         step_of(b"find 25 w or v\n", BOTH, 22),
         step_of(b"find 25 not v\n", b"end 0 read 2\n", 0),
     ];
-    let left = expect_steps(&rt, alloc, &disk, &steps);
-    expect_same(&rt, &left, &disk);
+    expect_questions(alloc, &disk, &[&steps])
 }
 
 /// Before the first cut and from the horizon on, and of another word.
@@ -78,9 +73,9 @@ const REFUSED: Step<'static> = Step {
 };
 
 #[test]
-fn what_asks_for_no_page_lets_none_go(rt: HostRuntime) {
+fn what_asks_for_no_page_lets_none_go(rt: HostRuntime) -> Result<(), RowError> {
     let alloc = rt.alloc();
-    let disk = first_disk(alloc).expect(&rt, "a disk");
+    let disk = first_disk(alloc)?;
     let steps = [
         OUTSIDE,
         TEXTS,
@@ -93,15 +88,14 @@ fn what_asks_for_no_page_lets_none_go(rt: HostRuntime) {
         REFUSED,
         over(0),
     ];
-    let left = expect_steps(&rt, alloc, &disk, &steps);
-    expect_same(&rt, &left, &disk);
+    expect_questions(alloc, &disk, &[&steps])
 }
 
 // So do changes of documents, and a plan of another word, which lies in page 3.
 #[test]
-fn changes_leave_the_pages_of_live_plans(rt: HostRuntime) {
+fn changes_leave_the_pages_of_live_plans(rt: HostRuntime) -> Result<(), RowError> {
     let alloc = rt.alloc();
-    let disk = first_disk(alloc).expect(&rt, "a disk");
+    let disk = first_disk(alloc)?;
     let steps = [
         find_15(18),
         step_of(b"arrive 4 70 1\nw\n", b"ok 6\n", 0),
@@ -117,7 +111,8 @@ fn changes_leave_the_pages_of_live_plans(rt: HostRuntime) {
         step_of(b"find 75 w\n", b"hit 4 1\nend 1 read 1\n", 18),
         over(0),
     ];
-    expect_steps(&rt, alloc, &disk, &steps);
+    expect_steps(alloc, &disk, &steps)?;
+    Ok(())
 }
 
 /// The check of the first plan.
@@ -127,14 +122,12 @@ fn verify() -> Step<'static> {
 
 // It reads each byte, whatever is kept, and keeps none.
 #[test]
-fn a_check_reads_past_the_cache(rt: HostRuntime) {
+fn a_check_reads_past_the_cache(rt: HostRuntime) -> Result<(), RowError> {
     let alloc = rt.alloc();
-    let disk = first_disk(alloc).expect(&rt, "a disk");
-    for steps in [
-        [find_15(18), verify(), find_15(0), find_25(22), verify()].as_slice(),
-        [verify(), verify(), find_15(18), over(40), verify(), over(0)].as_slice(),
-    ] {
-        let left = expect_steps(&rt, alloc, &disk, steps);
-        expect_same(&rt, &left, &disk);
-    }
+    let disk = first_disk(alloc)?;
+    let rows: [&[Step<'_>]; 2] = [
+        &[find_15(18), verify(), find_15(0), find_25(22), verify()],
+        &[verify(), verify(), find_15(18), over(40), verify(), over(0)],
+    ];
+    expect_questions(alloc, &disk, &rows)
 }

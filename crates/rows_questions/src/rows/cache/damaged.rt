@@ -1,29 +1,41 @@
 //! Sublists that aren't what the entries of their plans say, asked for where other pages are kept.
-use crate::rows::cache::steps::{Step, expect_same, find_25, find_35, run_steps, step_of};
+use crate::rows::cache::steps::{Step, expect_read, find_25, find_35, join_steps, step_of};
+use machine_mem::MemMachine;
 use machine_model::Image;
-use rows_rig::{LIFE_OF_1, Sublist, disk_with, first_segments, plan_of_v, read_image, segment_at};
-use std::alloc::Global;
-use std::process::Abort;
+use rows_rig::{
+    LIFE_OF_1, RowError, Sublist, copy_image, disk_with, expect_line, expect_replies, expect_same,
+    first_segments, machine_on, plan_of_v, read_image, run_on, segment_at,
+};
+use std::alloc::{AllocError, Global};
 
 /// The first plan's disk, with another byte 3 of Pages.
-fn changed_disk(rt: &impl Abort, alloc: Global) -> Image {
+fn changed_disk(alloc: Global) -> Result<Image, AllocError> {
     let changed = Sublist {
         bytes: b"\x01\x00\x03\x01\x00\x00\x01\x00\x00\x00\x01\x00\x00\x00\x01\x01\x0a\x1e",
         digest: LIFE_OF_1.digest,
     };
     let [_, two, three] = first_segments();
     let segments = [segment_at(10, 0, changed), two, three];
-    disk_with(alloc, &plan_of_v(40, &segments)).expect(rt, "a disk")
+    disk_with(alloc, &plan_of_v(40, &segments))
 }
 
-/// A run of these steps ends with status 8 and this line, where the last one is read. The disk is as it was.
-fn expect_damaged(rt: &impl Abort, alloc: Global, disk: &Image, steps: &[Step<'_>], line: &str) {
-    let (status, mut machine) = run_steps(rt, alloc, disk, steps);
-    let told = format!(in alloc; "{status}").expect(rt, "memory");
-    assert_eq!(rt; told.as_str(), line);
-    assert_eq!(rt; status.code(), 8);
-    let left = read_image(alloc, &mut machine).expect(rt, "a disk");
-    expect_same(rt, &left, disk);
+/// A run ends with status 8, where it reads the first sublist, and has shown these replies.
+fn expect_end(alloc: Global, machine: &mut MemMachine, replies: &[u8]) -> Result<(), RowError> {
+    let status = run_on(alloc, machine)?;
+    let line = "tt_archive: damaged sublist at page 0: digest";
+    expect_line(alloc, 0, status, 8, line)?;
+    expect_replies(alloc, machine, 0, replies)
+}
+
+/// A run of these steps ends with status 8, where the last one reads the first sublist. The disk is as it was.
+fn expect_damaged(alloc: Global, disk: &Image, steps: &[Step<'_>]) -> Result<(), RowError> {
+    let whole = join_steps(alloc, steps)?;
+    let copy = copy_image(alloc, disk)?;
+    let mut machine = machine_on(alloc, &whole.script, copy, &[])?;
+    expect_end(alloc, &mut machine, &whole.replies)?;
+    expect_read(&machine, steps.len(), whole.read)?;
+    let left = read_image(alloc, &mut machine)?;
+    expect_same(0, &left, disk)
 }
 
 /// The question at 15, and one behind it, which isn't carried out.
@@ -32,29 +44,24 @@ fn ends() -> Step<'static> {
 }
 
 #[test]
-fn a_changed_byte_is_told_behind_answers_from_other_pages(rt: HostRuntime) {
+fn a_changed_byte_is_told_behind_answers_from_other_pages(rt: HostRuntime) -> Result<(), RowError> {
     let alloc = rt.alloc();
-    let disk = changed_disk(&rt, alloc);
-    let line = "tt_archive: damaged sublist at page 0: digest";
-    for steps in [
-        [ends()].as_slice(),
-        [find_25(22), ends()].as_slice(),
-        [find_25(22), find_25(0), find_35(18), find_25(0), ends()].as_slice(),
-    ] {
-        expect_damaged(&rt, alloc, &disk, steps, line);
-    }
+    let disk = changed_disk(alloc)?;
+    expect_damaged(alloc, &disk, &[ends()])?;
+    expect_damaged(alloc, &disk, &[find_25(22), ends()])?;
+    let steps = [find_25(22), find_25(0), find_35(18), find_25(0), ends()];
+    expect_damaged(alloc, &disk, &steps)
 }
 
 // What is damaged is the first sublist that is read.
 #[test]
-fn a_changed_byte_is_told_in_front_of_pages_that_are_kept(rt: HostRuntime) {
+fn a_changed_byte_is_told_in_front_of_pages_that_are_kept(rt: HostRuntime) -> Result<(), RowError> {
     let alloc = rt.alloc();
-    let disk = changed_disk(&rt, alloc);
-    let line = "tt_archive: damaged sublist at page 0: digest";
+    let disk = changed_disk(alloc)?;
     let steps = [
         find_25(22),
         find_35(18),
         step_of(b"between 15 35 v\n", b"", 18),
     ];
-    expect_damaged(&rt, alloc, &disk, &steps, line);
+    expect_damaged(alloc, &disk, &steps)
 }

@@ -1,46 +1,35 @@
 //! More pages than are kept, and sublists of more than one page.
-use crate::rows::cache::steps::{Step, expect_run, expect_same, step_of};
+use crate::rows::cache::steps::{Step, expect_run, step_of};
 use machine_model::Image;
-use rows_rig::{Row, disk_after, many_lives, new_disk};
-use std::alloc::Global;
-use std::process::Abort;
-
-/// Adds to a script and its replies.
-fn add(rt: &impl Abort, both: &mut (Vec<u8>, Vec<u8>), script: &[u8], replies: &[u8]) {
-    both.0.extend_from_slice(script).expect(rt, "memory");
-    both.1.extend_from_slice(replies).expect(rt, "memory");
-}
+use rows_rig::{Row, RowError, disk_after, expect_same, many_lives, new_disk, put_lines};
+use std::alloc::{AllocError, Global};
 
 /// A disk where document 1 has the word in [2i, 2i + 1) for each i from 1 to 1,025, with a plan. Each life has a
 /// page of its own.
-fn lives_disk(rt: &impl Abort, alloc: Global) -> Image {
-    let mut both = many_lives(alloc, 1025).expect(rt, "memory");
-    add(
-        rt,
-        &mut both,
-        b"plan v guarantee 1/1\n",
-        b"plan 2051 segments 2049 space 1025 full 1025 horizon 2051\n",
-    );
+fn lives_disk(alloc: Global) -> Result<Image, RowError> {
+    let (mut script, mut replies) = many_lives(alloc, 1025)?;
+    script.extend_from_slice(b"plan v guarantee 1/1\n")?;
+    replies.extend_from_slice(b"plan 2051 segments 2049 space 1025 full 1025 horizon 2051\n")?;
     let row = Row {
-        script: &both.0,
-        replies: &both.1,
+        script: &script,
+        replies: &replies,
     };
-    disk_after(alloc, &new_disk(alloc), &row).expect(rt, "the replies")
+    disk_after(alloc, &new_disk(alloc), &row)
 }
 
 /// The rows of the first lives.
-fn rows_of_lives(rt: &impl Abort, alloc: Global, lives: u64) -> Vec<u8> {
+fn rows_of_lives(alloc: Global, lives: u64) -> Result<Vec<u8>, AllocError> {
     let mut rows = Vec::new(alloc);
     let mut start = 2u64;
     for _ in 0..lives {
         let end = start.saturating_add(1);
-        let row = format!(in alloc; "span 1 {start} {end} 1\n").expect(rt, "memory");
-        rows.extend_from_slice(row.as_bytes()).expect(rt, "memory");
+        let row = format!(in alloc; "span 1 {start} {end} 1\n")?;
+        rows.extend_from_slice(row.as_bytes())?;
         start = start.saturating_add(2);
     }
-    let end = format!(in alloc; "end {lives} read {lives}\n").expect(rt, "memory");
-    rows.extend_from_slice(end.as_bytes()).expect(rt, "memory");
-    rows
+    let end = format!(in alloc; "end {lives} read {lives}\n")?;
+    rows.extend_from_slice(end.as_bytes())?;
+    Ok(rows)
 }
 
 /// A question at the time of a life.
@@ -53,11 +42,11 @@ fn find_at(script: &[u8], read: u64) -> Step<'_> {
 // place of the first life's, which comes back in the place of the second's, and so on. Then 5 isn't kept, and each page
 // from there on is let go before it is asked for: 59 * 18 + 962 * 19 = 19,340 bytes.
 #[test]
-fn a_thousand_and_twenty_four_pages_are_kept(rt: HostRuntime) {
+fn a_thousand_and_twenty_four_pages_are_kept(rt: HostRuntime) -> Result<(), RowError> {
     let alloc = rt.alloc();
-    let disk = lives_disk(&rt, alloc);
-    let most = rows_of_lives(&rt, alloc, 1024);
-    let all = rows_of_lives(&rt, alloc, 1025);
+    let disk = lives_disk(alloc)?;
+    let most = rows_of_lives(alloc, 1024)?;
+    let all = rows_of_lives(alloc, 1025)?;
     let over_most = step_of(b"between 2 2049 v\n", &most, 19393);
     let again = step_of(b"between 2 2049 v\n", &most, 0);
     let over_all = step_of(b"between 2 2051 v\n", &all, 19340);
@@ -71,28 +60,30 @@ fn a_thousand_and_twenty_four_pages_are_kept(rt: HostRuntime) {
         find_at(b"find 8 v\n", 18),
         over_all,
     ];
-    let left = expect_run(&rt, alloc, &disk, &steps);
-    expect_same(&rt, &left, &disk);
+    let left = expect_run(alloc, &disk, &steps)?;
+    expect_same(0, &left, &disk)
 }
 
 /// A disk where the documents 1 to 1,000 have the word in [10, 20), and no plan.
-fn documents_disk(rt: &impl Abort, alloc: Global) -> Image {
-    let mut both = (Vec::new(alloc), Vec::new(alloc));
-    for doc in 1..=1000u64 {
-        let change = format!(in alloc; "arrive {doc} 10 1\nv\n").expect(rt, "memory");
-        let told = format!(in alloc; "ok {doc}\n").expect(rt, "memory");
-        add(rt, &mut both, change.as_bytes(), told.as_bytes());
-    }
-    for doc in 1..=1000u64 {
-        let change = format!(in alloc; "delete {doc} 20\n").expect(rt, "memory");
-        let told = format!(in alloc; "ok {}\n", doc.saturating_add(1000)).expect(rt, "memory");
-        add(rt, &mut both, change.as_bytes(), told.as_bytes());
-    }
+fn documents_disk(alloc: Global) -> Result<Image, RowError> {
+    let mut script = Vec::new(alloc);
+    put_lines(alloc, &mut script, "arrive ", (1, 1000), " 10 1\nv\n")?;
+    put_lines(alloc, &mut script, "delete ", (1, 1000), " 20\n")?;
+    let mut replies = Vec::new(alloc);
+    put_lines(alloc, &mut replies, "ok ", (1, 2000), "\n")?;
     let row = Row {
-        script: &both.0,
-        replies: &both.1,
+        script: &script,
+        replies: &replies,
     };
-    disk_after(alloc, &new_disk(alloc), &row).expect(rt, "the replies")
+    disk_after(alloc, &new_disk(alloc), &row)
+}
+
+/// All of them.
+fn rows_of_documents(alloc: Global) -> Result<Vec<u8>, AllocError> {
+    let mut hits = Vec::new(alloc);
+    put_lines(alloc, &mut hits, "hit ", (1, 1000), " 1\n")?;
+    hits.extend_from_slice(b"end 1000 read 1000\n")?;
+    Ok(hits)
 }
 
 /// A plan of the word, and its reply.
@@ -103,15 +94,10 @@ fn plan(replies: &[u8]) -> Step<'_> {
 // Seven blocks of 128 postings have 15 + 3 + 127 * 4 = 526 bytes each, and one of 104 has 430: 4,112 together, of
 // which 16 lie in a second page. The second plan lies in the pages 2 and 3, and the third in 0 and 1.
 #[test]
-fn a_sublist_of_two_pages_is_read_once(rt: HostRuntime) {
+fn a_sublist_of_two_pages_is_read_once(rt: HostRuntime) -> Result<(), RowError> {
     let alloc = rt.alloc();
-    let mut hits = Vec::new(alloc);
-    for doc in 1..=1000u64 {
-        let hit = format!(in alloc; "hit {doc} 1\n").expect(&rt, "memory");
-        hits.extend_from_slice(hit.as_bytes()).expect(&rt, "memory");
-    }
-    hits.extend_from_slice(b"end 1000 read 1000\n")
-        .expect(&rt, "memory");
+    let disk = documents_disk(alloc)?;
+    let hits = rows_of_documents(alloc)?;
     let read = step_of(b"find 15 v\n", &hits, 4112);
     let kept = step_of(b"find 15 v\n", &hits, 0);
     let steps = [
@@ -124,5 +110,6 @@ fn a_sublist_of_two_pages_is_read_once(rt: HostRuntime) {
         read,
         kept,
     ];
-    expect_run(&rt, alloc, &documents_disk(&rt, alloc), &steps);
+    expect_run(alloc, &disk, &steps)?;
+    Ok(())
 }

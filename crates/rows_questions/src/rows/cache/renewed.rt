@@ -1,8 +1,8 @@
 //! Pages that are freed while they are kept, and written anew.
-use crate::rows::cache::steps::{
-    Step, expect_same, expect_steps, find_15, find_25, find_35, step_of,
-};
-use rows_rig::{Row, disk_after, first_disk, flat_disk, new_disk};
+use crate::rows::cache::steps::{Step, expect_steps, find_15, find_25, find_35, step_of};
+use machine_model::Image;
+use rows_rig::{Row, RowError, disk_after, expect_same, first_disk, flat_disk, new_disk};
+use std::alloc::Global;
 
 /// A step of a script that reads nothing of Pages.
 fn change<'a>(script: &'a [u8], replies: &'a [u8]) -> Step<'a> {
@@ -17,9 +17,9 @@ fn find_45(read: u64) -> Step<'static> {
 // The second plan lies in the pages 3 to 6, and frees 0 to 2. The third lies in 0 to 2 and 7, and frees 3 to 6.
 // Document 3's sublist has 18 bytes, and no document has the word in the last segment.
 #[test]
-fn each_segment_is_asked_for_between_plans(rt: HostRuntime) {
+fn each_segment_is_asked_for_between_plans(rt: HostRuntime) -> Result<(), RowError> {
     let alloc = rt.alloc();
-    let disk = first_disk(alloc).expect(&rt, "a disk");
+    let disk = first_disk(alloc)?;
     let goes_on = change(b"arrive 3 40 1\nv\ndelete 3 60\n", b"ok 6\nok 7\n");
     let second = change(
         b"plan v guarantee 1/1\n",
@@ -59,11 +59,11 @@ fn each_segment_is_asked_for_between_plans(rt: HostRuntime) {
         find_45(18),
         all,
     ];
-    let left = expect_steps(&rt, alloc, &disk, &steps);
+    let left = expect_steps(alloc, &disk, &steps)?;
     // and without the questions the same is left
     let changes = [goes_on, second, arrival, third];
-    let bare = expect_steps(&rt, alloc, &disk, &changes);
-    expect_same(&rt, &left, &bare);
+    let bare = expect_steps(alloc, &disk, &changes)?;
+    expect_same(0, &left, &bare)
 }
 
 /// Document 2 has the word `w` once in [10, 20), as 18 bytes.
@@ -81,16 +81,16 @@ fn find_both(read: u64) -> Step<'static> {
     step_of(b"find 15 v or w\n", replies, read)
 }
 
-// The first plan of `v` lies in page 0 and is kept, its second in page 1. So that of `w` is written to page 0, with
-// as many bytes. Then `w` moves to page 2, and `v` back to page 0.
-#[test]
-fn a_page_with_other_bytes_is_read_anew(rt: HostRuntime) {
-    let alloc = rt.alloc();
-    let row = Row {
-        script: b"arrive 1 10 1\nv\narrive 2 10 1\nw\ndelete 1 20\ndelete 2 20\n",
-        replies: b"ok 1\nok 2\nok 3\nok 4\n",
-    };
-    let disk = disk_after(alloc, &new_disk(alloc), &row).expect(&rt, "the replies");
+/// Lives of two words.
+const TWO_WORDS: Row<'static> = Row {
+    script: b"arrive 1 10 1\nv\narrive 2 10 1\nw\ndelete 1 20\ndelete 2 20\n",
+    replies: b"ok 1\nok 2\nok 3\nok 4\n",
+};
+
+/// The first plan of `v` lies in page 0 and is kept, its second in page 1. So that of `w` is written to page 0, with
+/// as many bytes.
+fn with_w_first(alloc: Global) -> Result<Image, RowError> {
+    let disk = disk_after(alloc, &new_disk(alloc), &TWO_WORDS)?;
     let steps = [
         change(
             b"plan v guarantee 1/1\n",
@@ -109,9 +109,12 @@ fn a_page_with_other_bytes_is_read_anew(rt: HostRuntime) {
         find_15(18),
         find_both(0),
     ];
-    let left = expect_steps(&rt, alloc, &disk, &steps);
-    assert!(rt; left.pages.starts_with(LIFE_OF_2));
-    let again = [
+    expect_steps(alloc, &disk, &steps)
+}
+
+/// Then `w` moves to page 2, and `v` back to page 0.
+fn with_v_first(alloc: Global, disk: &Image) -> Result<Image, RowError> {
+    let steps = [
         find_both(36),
         change(
             b"plan w guarantee 1/1\n",
@@ -125,8 +128,18 @@ fn a_page_with_other_bytes_is_read_anew(rt: HostRuntime) {
         find_w(18),
         find_both(0),
     ];
-    let last = expect_steps(&rt, alloc, &left, &again);
-    assert!(rt; !last.pages.starts_with(LIFE_OF_2));
+    expect_steps(alloc, disk, &steps)
+}
+
+#[test]
+fn a_page_with_other_bytes_is_read_anew(rt: HostRuntime) -> Result<(), RowError> {
+    let alloc = rt.alloc();
+    let before = with_w_first(alloc)?;
+    let after = with_v_first(alloc, &before)?;
+    if !before.pages.starts_with(LIFE_OF_2) || after.pages.starts_with(LIFE_OF_2) {
+        return Err(RowError::NotHeld { page: 0 });
+    }
+    Ok(())
 }
 
 /// A plan of one segment, with the list's 22 bytes.
@@ -136,7 +149,7 @@ fn find_15_of_whole(read: u64) -> Step<'static> {
 
 // The one segment lies in page 3 first, and then in page 0.
 #[test]
-fn a_page_with_more_bytes_is_read_anew(rt: HostRuntime) {
+fn a_page_with_more_bytes_is_read_anew(rt: HostRuntime) -> Result<(), RowError> {
     let alloc = rt.alloc();
     let steps = [
         find_15(18),
@@ -153,12 +166,14 @@ fn a_page_with_more_bytes_is_read_anew(rt: HostRuntime) {
         find_15_of_whole(22),
         find_25(0),
     ];
-    expect_steps(&rt, alloc, &first_disk(alloc).expect(&rt, "a disk"), &steps);
+    let disk = first_disk(alloc)?;
+    expect_steps(alloc, &disk, &steps)?;
+    Ok(())
 }
 
 // A plan in blocks lies behind the flat one in the pages 3 to 5, and the next one in page 0.
 #[test]
-fn the_pages_of_a_flat_plan_are_read_anew(rt: HostRuntime) {
+fn the_pages_of_a_flat_plan_are_read_anew(rt: HostRuntime) -> Result<(), RowError> {
     let alloc = rt.alloc();
     let steps = [
         find_15(24),
@@ -176,5 +191,7 @@ fn the_pages_of_a_flat_plan_are_read_anew(rt: HostRuntime) {
         find_25(22),
         find_15_of_whole(0),
     ];
-    expect_steps(&rt, alloc, &flat_disk(alloc).expect(&rt, "a disk"), &steps);
+    let disk = flat_disk(alloc)?;
+    expect_steps(alloc, &disk, &steps)?;
+    Ok(())
 }

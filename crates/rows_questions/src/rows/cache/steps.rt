@@ -1,10 +1,9 @@
 //! Scripts in steps, and how many bytes of Pages each reads.
 use machine_mem::MemMachine;
 use machine_model::{Area, Image};
-use rows_rig::{copy_image, machine_on, read_image, run_on};
+use rows_rig::{RowError, copy_image, expect_end, expect_same, machine_on, read_image};
 use run_script::Status;
-use std::alloc::Global;
-use std::process::Abort;
+use std::alloc::{AllocError, Global};
 
 /// A part of a script.
 #[derive(Clone, Copy, Debug)]
@@ -53,63 +52,80 @@ pub(crate) fn over(read: u64) -> Step<'static> {
     step_of(b"between 15 35 v\n", replies, read)
 }
 
-/// A run of steps, one behind the other, on a copy of a disk shows their replies and reads as many bytes of
-/// Pages as they do together.
-pub(crate) fn run_steps(
-    rt: &impl Abort,
-    alloc: Global,
-    disk: &Image,
-    steps: &[Step<'_>],
-) -> (Status, MemMachine) {
+/// Steps in one run.
+#[derive(Debug, Drop)]
+pub(crate) struct Whole {
+    /// The whole input.
+    pub(crate) script: Vec<u8>,
+    /// All replies.
+    pub(crate) replies: Vec<u8>,
+    /// How many bytes of Pages are read.
+    pub(crate) read: u64,
+}
+
+/// Steps, one behind the other.
+pub(crate) fn join_steps(alloc: Global, steps: &[Step<'_>]) -> Result<Whole, AllocError> {
     let mut script = Vec::new(alloc);
     let mut replies = Vec::new(alloc);
     let mut read = 0u64;
     for step in steps {
-        script.extend_from_slice(step.script).expect(rt, "memory");
-        replies.extend_from_slice(step.replies).expect(rt, "memory");
+        script.extend_from_slice(step.script)?;
+        replies.extend_from_slice(step.replies)?;
         read = read.saturating_add(step.read);
     }
-    let copy = copy_image(alloc, disk).expect(rt, "memory");
-    let mut machine = machine_on(alloc, &script, copy, &[]).expect(rt, "a machine");
-    let status = run_on(alloc, &mut machine).expect(rt, "a run");
-    assert_eq!(rt; machine.shown(), replies.as_slice());
-    assert_eq!(rt;
-        machine.read_of(Area::Pages),
+    Ok(Whole {
+        script,
+        replies,
         read,
-        "after {} steps",
-        steps.len()
-    );
-    (status, machine)
+    })
+}
+
+/// A machine that ran so many steps has read so many bytes of Pages.
+pub(crate) fn expect_read(machine: &MemMachine, steps: usize, read: u64) -> Result<(), RowError> {
+    let count = machine.read_of(Area::Pages);
+    if count != read {
+        return Err(RowError::Count { row: steps, count });
+    }
+    Ok(())
 }
 
 /// These steps in one run, which comes to its end. Answers the disk that it leaves.
 pub(crate) fn expect_run(
-    rt: &impl Abort,
     alloc: Global,
     disk: &Image,
     steps: &[Step<'_>],
-) -> Image {
-    let (status, mut machine) = run_steps(rt, alloc, disk, steps);
-    assert_eq!(rt; status, Status::Done);
-    read_image(alloc, &mut machine).expect(rt, "a disk")
+) -> Result<Image, RowError> {
+    let whole = join_steps(alloc, steps)?;
+    let copy = copy_image(alloc, disk)?;
+    let mut machine = machine_on(alloc, &whole.script, copy, &[])?;
+    let count = steps.len();
+    expect_end(alloc, &mut machine, count, Status::Done, &whole.replies)?;
+    expect_read(&machine, count, whole.read)?;
+    read_image(alloc, &mut machine)
 }
 
 /// A run of the first step, one of the first two, and so on to all of them. Answers the disk that the last
 /// one leaves.
 pub(crate) fn expect_steps(
-    rt: &impl Abort,
     alloc: Global,
     disk: &Image,
     steps: &[Step<'_>],
-) -> Image {
+) -> Result<Image, RowError> {
     for count in 1..steps.len() {
-        expect_run(rt, alloc, disk, &steps[..count]);
+        expect_run(alloc, disk, &steps[..count])?;
     }
-    expect_run(rt, alloc, disk, steps)
+    expect_run(alloc, disk, steps)
 }
 
-/// The disk is the same as before.
-pub(crate) fn expect_same(rt: &impl Abort, left: &Image, disk: &Image) {
-    assert_eq!(rt; left.journal.as_slice(), disk.journal.as_slice());
-    assert_eq!(rt; left.pages.as_slice(), disk.pages.as_slice());
+/// Each of these lists of steps runs so, and leaves the disk as it was.
+pub(crate) fn expect_questions(
+    alloc: Global,
+    disk: &Image,
+    rows: &[&[Step<'_>]],
+) -> Result<(), RowError> {
+    for (row, steps) in rows.iter().enumerate() {
+        let left = expect_steps(alloc, disk, steps)?;
+        expect_same(row, &left, disk)?;
+    }
+    Ok(())
 }
