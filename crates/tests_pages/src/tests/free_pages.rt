@@ -28,7 +28,7 @@ fn the_lowest_run_that_is_long_enough_is_taken(rt: HostRuntime) {
 /// How many bytes Pages can have.
 const WHOLE: u64 = 1 << 40;
 
-/// How many bytes are asked for in turn, and what each take gives: a first page and bytes, or why there are none.
+/// How many bytes are asked for in turn, and what each take gives: a first page and bytes, or why none.
 const TAKES: [(u64, Result<(u32, u64), TakeError>); 6] = [
     (WHOLE + 1, Err(TakeError::Full)),
     (1, Ok((0, 1))),

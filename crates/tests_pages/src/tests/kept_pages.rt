@@ -20,7 +20,7 @@ fn machine_with(rt: &impl Abort, alloc: Global, pages: Vec<u8>, faults: &[Fault]
     MemMachine::new(alloc, Vec::new(alloc), image, faults).expect(rt, "memory")
 }
 
-/// Where runs of one byte end in Pages, and the byte: 18 of 7, 22 of 8 and 18 of 9 stand in the pages 0, 1 and 2.
+/// Where runs of one byte end in Pages, and the byte: 18 of 7, 22 of 8 and 18 of 9 begin the pages 0, 1 and 2.
 const RUNS: [(usize, u8); 5] = [(18, 7), (4096, 0), (4118, 8), (8192, 0), (8210, 9)];
 
 /// Pages that hold these.

@@ -1,7 +1,7 @@
 //! Lists as bytes in both layouts, and bytes that spell no list.
 ghost use Rattle.lists_postings.specs.Lists.{IsList};
 
-use crate::tests::given::{bytes_of, expect_same, expect_same_in, listed, put_flat, told};
+use crate::tests::given::{Row, bytes_of, expect_same, expect_same_in, listed, put_flat, told};
 use base_types::Posting;
 use pages_codec::{Frames, ListError, decode_blocks, decode_list, encode_blocks, encode_list};
 use std::alloc::Global;
@@ -20,58 +20,61 @@ fn place(read: Result<Vec<Posting>, ListError>) -> Option<u64> {
     named_by(read.err())
 }
 
-/// Document 1 from 10 to 40, and document 2 from 20 to 30.
-const FIRST: &str = "0000000100000001000000000000000a0000000000000028";
+/// The flat bytes of document 1 from 10 to 40, and of document 2 from 20 to 30.
+const BOTH: &str =
+    "0000000100000001000000000000000a000000000000002800000002000000010000000000000014000000000000001e";
 
-const SECOND: &str = "00000002000000010000000000000014000000000000001e";
+/// Lists: their flat bytes, their postings, and their bytes in blocks.
+const LISTS: [(&str, &[Row], &str); 4] = [
+    ("", &[], ""),
+    // a block of one posting has eighteen bytes
+    (
+        "0000000100000001000000000000000a0000000000000028",
+        &[(1, 10, 40, 1)],
+        "010003000000010000000100000001010a1e",
+    ),
+    (
+        "00000002000000010000000000000014000000000000001e",
+        &[(2, 20, 30, 1)],
+        "01000300000001000000020000000201140a",
+    ),
+    (
+        BOTH,
+        &[(1, 10, 40, 1), (2, 20, 30, 1)],
+        "020007000000010000000100000002010a1e0101140a",
+    ),
+];
 
-/// The flat bytes of both.
-fn both(rt: &impl Abort, alloc: Global) -> Vec<u8> {
-    let mut bytes = bytes_of(rt, alloc, FIRST);
-    let second = bytes_of(rt, alloc, SECOND);
-    bytes.extend_from_slice(&second).expect(rt, "memory");
-    bytes
+/// The bytes of a list in blocks, which spell it.
+fn blocks_of(rt: &impl Abort, alloc: Global, list: &[Posting]) -> Vec<u8>
+    requires { IsList list.now }
+{
+    let blocks = encode_blocks(alloc, list).expect(rt, "memory");
+    let again = decode_blocks(alloc, &blocks).expect(rt, "a list");
+    expect_same(rt, again.as_slice(), list);
+    blocks
 }
 
-/// A list has these bytes in blocks, which spell it.
-fn expect_blocks(rt: &impl Abort, alloc: Global, flat: &[u8], digits: &str) {
-    let list = listed(rt, alloc, flat);
+/// The list of the flat bytes has these postings, and in blocks these bytes; each spelling spells it.
+fn expect_spelled(rt: &impl Abort, alloc: Global, (flat, postings, digits): (&str, &[Row], &str)) {
+    let flat = bytes_of(rt, alloc, flat);
+    let list = listed(rt, alloc, &flat);
+    expect_same(rt, told(rt, alloc, &list).as_slice(), postings);
     let again = encode_list(alloc, &list).expect(rt, "memory");
-    expect_same(rt, again.as_slice(), flat);
-    let blocks = encode_blocks(alloc, &list).expect(rt, "memory");
+    expect_same(rt, again.as_slice(), flat.as_slice());
+    let wanted = bytes_of(rt, alloc, digits);
     expect_same(
         rt,
-        blocks.as_slice(),
-        bytes_of(rt, alloc, digits).as_slice(),
+        blocks_of(rt, alloc, &list).as_slice(),
+        wanted.as_slice(),
     );
-    let again = decode_blocks(alloc, &blocks).expect(rt, "a list");
-    expect_same(rt, again.as_slice(), list.as_slice());
 }
 
 #[test]
-fn a_list_of_two_postings_in_both_layouts(rt: HostRuntime) {
-    let flat = both(&rt, rt.alloc());
-    let list = listed(&rt, rt.alloc(), &flat);
-    let wanted = [(1, 10, 40, 1), (2, 20, 30, 1)];
-    expect_same(&rt, told(&rt, rt.alloc(), &list).as_slice(), &wanted[..]);
-    let digits = "020007000000010000000100000002010a1e0101140a";
-    expect_blocks(&rt, rt.alloc(), &flat, digits);
-}
-
-#[test]
-fn a_block_of_one_posting_has_eighteen_bytes(rt: HostRuntime) {
-    let first = bytes_of(&rt, rt.alloc(), FIRST);
-    let digits = "010003000000010000000100000001010a1e";
-    expect_blocks(&rt, rt.alloc(), &first, digits);
-    let second = bytes_of(&rt, rt.alloc(), SECOND);
-    let digits = "01000300000001000000020000000201140a";
-    expect_blocks(&rt, rt.alloc(), &second, digits);
-}
-
-#[test]
-fn the_empty_list_has_no_bytes(rt: HostRuntime) {
-    expect_blocks(&rt, rt.alloc(), &[], "");
-    expect_same(&rt, listed(&rt, rt.alloc(), &[]).len(), 0);
+fn lists_in_both_layouts(rt: HostRuntime) {
+    for row in &LISTS {
+        expect_spelled(&rt, rt.alloc(), *row);
+    }
 }
 
 /// The same bytes with another one at a place.
@@ -105,7 +108,7 @@ fn expect_fault(rt: &impl Abort, alloc: Global, list: &[u8], (at, byte, named): 
 
 #[test]
 fn the_posting_at_fault_is_named(rt: HostRuntime) {
-    let list = both(&rt, rt.alloc());
+    let list = bytes_of(&rt, rt.alloc(), BOTH);
     for fault in &POSTING_FAULTS {
         expect_fault(&rt, rt.alloc(), &list, *fault);
     }
@@ -120,7 +123,7 @@ fn expect_cut_short(rt: &impl Abort, alloc: Global, list: &[u8], bytes: usize, n
 
 #[test]
 fn the_posting_that_is_cut_short_is_named(rt: HostRuntime) {
-    let list = both(&rt, rt.alloc());
+    let list = bytes_of(&rt, rt.alloc(), BOTH);
     expect_cut_short(&rt, rt.alloc(), &list, 47, 24);
     expect_cut_short(&rt, rt.alloc(), &list, 1, 0);
 }
@@ -192,14 +195,11 @@ fn long(rt: &impl Abort, alloc: Global, count: u32) -> Vec<Posting>
     listed(rt, alloc, &bytes)
 }
 
-/// A list has so many bytes in blocks, which spell it.
+/// A list has so many bytes in blocks.
 fn expect_size(rt: &impl Abort, alloc: Global, list: &[Posting], bytes: usize)
     requires { IsList list.now }
 {
-    let blocks = encode_blocks(alloc, list).expect(rt, "memory");
-    expect_same(rt, blocks.len(), bytes);
-    let again = decode_blocks(alloc, &blocks).expect(rt, "a list");
-    expect_same(rt, again.as_slice(), list);
+    expect_same(rt, blocks_of(rt, alloc, list).len(), bytes);
 }
 
 /// Numbers of postings, and how many bytes these have in blocks.

@@ -1,7 +1,7 @@
 //! Sublists that are gathered, or refused.
 use super::given::{
-    BOTH, FIRST, cuts, docs_of, gather_between, gather_blocks, machine_with, no_sublists, pages_of,
-    places_of, posting, store_between, time,
+    BOTH, FIRST, cuts, docs_of, gather_between, machine_with, no_sublists, pages_of, places_of,
+    posting, refusal, store_between, time,
 };
 use crate::tests::given::{expect_same, expect_same_in};
 use base_types::Time;
@@ -141,9 +141,13 @@ fn refused(
     window: (u64, u64),
 ) -> Option<FetchError> {
     let mut machine = machine_with(rt, alloc, &pages_of(rt, alloc, pieces), &[]);
-    let places = places_of(rt, alloc, pieces);
-    let mut sublists = no_sublists(rt, alloc);
-    gather_blocks(rt, alloc, &mut sublists, &mut machine, &places, window).err()
+    refusal(
+        rt,
+        alloc,
+        &mut machine,
+        &places_of(rt, alloc, pieces),
+        window,
+    )
 }
 
 /// The bytes of three places are refused for a window: a page is told, and why.

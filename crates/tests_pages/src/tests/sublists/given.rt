@@ -172,6 +172,18 @@ pub(crate) fn gather_between(
     sublists.gather(alloc, machine, layout, cuts, horizon, places, span)
 }
 
+/// Why nothing is gathered from three places in blocks for a window, with none of the pages kept.
+pub(crate) fn refusal(
+    rt: &impl Abort,
+    alloc: Global,
+    machine: &mut MemMachine,
+    places: &[Place],
+    window: (u64, u64),
+) -> Option<FetchError> {
+    let mut sublists = no_sublists(rt, alloc);
+    gather_blocks(rt, alloc, &mut sublists, machine, places, window).err()
+}
+
 /// The documents of a list, in order.
 pub(crate) fn docs_of(rt: &impl Abort, alloc: Global, list: &[Posting]) -> Vec<u32> {
     let mut docs = Vec::new(alloc);
@@ -201,15 +213,19 @@ pub(crate) const BOTH: &str = "020007000000010000000100000002010a1e0101140a";
 pub(crate) const BOTH_DIGEST: &str =
     "3e9ce0608f1e27488a5d35d6d9ceebc93f2efcc7c2bb9740acf693e348776026";
 
+/// Adds what is missing of the pages before this one, and these bytes.
+fn put_piece(rt: &impl Abort, alloc: Global, pages: &mut Vec<u8>, page: usize, piece: &str) {
+    let start = page.saturating_mul(4096);
+    pages.resize(start, 0).expect(rt, "memory");
+    let bytes = bytes_of(rt, alloc, piece);
+    pages.extend_from_slice(&bytes).expect(rt, "memory");
+}
+
 /// Pages that begin with these bytes, one behind the other.
 pub(crate) fn pages_of(rt: &impl Abort, alloc: Global, pieces: &[&str]) -> Vec<u8> {
     let mut pages = Vec::new(alloc);
     for (page, piece) in pieces.iter().enumerate() {
-        pages
-            .resize(page.saturating_mul(4096), 0)
-            .expect(rt, "memory");
-        let bytes = bytes_of(rt, alloc, piece);
-        pages.extend_from_slice(&bytes).expect(rt, "memory");
+        put_piece(rt, alloc, &mut pages, page, piece);
     }
     pages
 }

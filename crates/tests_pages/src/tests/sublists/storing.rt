@@ -4,8 +4,8 @@ ghost use Rattle.base_types.specs.declared.extent.Extent.{Extent as PlainExtent}
 ghost use Rattle.pages_area.specs.Taken.{HasTaken};
 
 use super::given::{
-    BOTH, BOTH_DIGEST, FIRST, FIRST_DIGEST, expect_extents, gather_blocks, machine_with,
-    no_sublists, pages_of, read_pages, store_all, time, two_documents,
+    BOTH, BOTH_DIGEST, FIRST, FIRST_DIGEST, expect_extents, machine_with, pages_of, read_pages,
+    refusal, store_all, time, two_documents,
 };
 use crate::tests::given::{bytes_of, expect_same};
 use base_types::Extent;
@@ -78,13 +78,6 @@ fn a_call_of_the_disk_that_fails_is_told(rt: HostRuntime) {
     expect_failed(&rt, rt.alloc(), CallKind::Sync, 1);
 }
 
-/// Nothing is gathered from these places, since a read fails.
-fn expect_read_failed(rt: &impl Abort, alloc: Global, machine: &mut MemMachine, places: &[Place]) {
-    let mut sublists = no_sublists(rt, alloc);
-    let gathered = gather_blocks(rt, alloc, &mut sublists, machine, places, (15, 35));
-    expect_same(rt, gathered.err(), Some(FetchError::Failed));
-}
-
 #[test]
 fn a_read_that_fails_is_told(rt: HostRuntime) {
     let fault = Fault {
@@ -95,7 +88,8 @@ fn a_read_that_fails_is_told(rt: HostRuntime) {
     let mut machine = machine_with(&rt, rt.alloc(), &[], &[fault]);
     let stored = store_all(&rt, rt.alloc(), &mut machine, Layout::Blocks);
     let places = stored.expect(&rt, "written");
-    expect_read_failed(&rt, rt.alloc(), &mut machine, &places);
+    let why = refusal(&rt, rt.alloc(), &mut machine, &places, (15, 35));
+    expect_same(&rt, why, Some(FetchError::Failed));
 }
 
 /// A store with one free page, the last.
