@@ -2,7 +2,7 @@
 ghost use Rattle.std.specs.Prelude.{◌≡◌, ◌∷◌, [], IfOk};
 
 use crate::tests::given::{expect_same, expect_same_in};
-use crate::tests::in_words::{beside, counted};
+use crate::tests::in_words::{beside, counted, owned};
 use base_types::{Key, WordId};
 use std::alloc::{AllocError, Global};
 use std::process::Abort;
@@ -15,10 +15,14 @@ fn show(rt: &impl Abort, alloc: Global, out: &mut String, term: &str, count: u32
     out.push_str(", ").expect(rt, "memory");
 }
 
+/// The digits of a number.
+fn digits(rt: &impl Abort, alloc: Global, number: u32) -> String {
+    format!(in alloc; "{number}").expect(rt, "memory")
+}
+
 /// Shows a word that has a number by it, with its count.
 fn show_number(rt: &impl Abort, alloc: Global, out: &mut String, number: u32, count: u32) {
-    let number = format!(in alloc; "{number}").expect(rt, "memory");
-    show(rt, alloc, out, number.as_str(), count);
+    show(rt, alloc, out, digits(rt, alloc, number).as_str(), count);
 }
 
 /// What is weighed as a text: the words that have a number by it, and then the others, each with its count
@@ -371,7 +375,11 @@ fn words_are_weighed_by_number_or_by_key(rt: HostRuntime) {
 
 /// The word `w` with a number behind it, and a space.
 fn word_at(rt: &impl Abort, alloc: Global, at: u32) -> String {
-    format!(in alloc; "w{at} ").expect(rt, "memory")
+    let mut word = owned(rt, alloc, "w");
+    let digits = digits(rt, alloc, at);
+    word.push_str(digits.as_str()).expect(rt, "memory");
+    word.push_str(" ").expect(rt, "memory");
+    word
 }
 
 /// Adds the words `w0`, `w1` and so on to a vocabulary, so many, and gives the text of them.
