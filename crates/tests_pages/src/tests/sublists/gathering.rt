@@ -115,12 +115,11 @@ const JOINED: [((u64, u64), &[u32], u64); 4] = [
     ((11, 39), &[1, 2], 9),
 ];
 
-/// What is gathered for each of these windows of the sublists between cuts is theirs.
-fn expect_joined(rt: &impl Abort, alloc: Global, cuts: &[Time]) {
-    let mut stored = make_stored(rt, alloc, Layout::Flat, cuts);
+/// What is gathered for each of these windows is found, while pages are kept.
+fn expect_joined(rt: &impl Abort, alloc: Global, stored: &mut Stored<'_>) {
     let mut sublists = no_sublists(rt, alloc);
     for row in &JOINED {
-        expect_found(rt, alloc, &mut sublists, &mut stored, *row);
+        expect_found(rt, alloc, &mut sublists, stored, *row);
     }
 }
 
@@ -130,7 +129,8 @@ fn the_lists_of_any_number_of_segments_are_joined(rt: HostRuntime) {
     for seconds in [10, 15, 20, 25, 30, 35, 38] {
         cuts.push(time(&rt, seconds)).expect(&rt, "memory");
     }
-    expect_joined(&rt, rt.alloc(), &cuts);
+    let mut stored = make_stored(&rt, rt.alloc(), Layout::Flat, &cuts);
+    expect_joined(&rt, rt.alloc(), &mut stored);
 }
 
 /// Why the bytes of three places are refused for a window.
