@@ -115,6 +115,15 @@ const JOINED: [((u64, u64), &[u32], u64); 4] = [
     ((11, 39), &[1, 2], 9),
 ];
 
+/// The cuts at so many seconds.
+fn cuts_at(rt: &impl Abort, alloc: Global, seconds: &[u64]) -> Vec<Time> {
+    let mut cuts = Vec::new(alloc);
+    for at in seconds {
+        cuts.push(time(rt, *at)).expect(rt, "memory");
+    }
+    cuts
+}
+
 /// What is gathered for each of these windows is found, while pages are kept.
 fn expect_joined(rt: &impl Abort, alloc: Global, stored: &mut Stored<'_>) {
     let mut sublists = no_sublists(rt, alloc);
@@ -125,10 +134,7 @@ fn expect_joined(rt: &impl Abort, alloc: Global, stored: &mut Stored<'_>) {
 
 #[test]
 fn the_lists_of_any_number_of_segments_are_joined(rt: HostRuntime) {
-    let mut cuts = Vec::new(rt.alloc());
-    for seconds in [10, 15, 20, 25, 30, 35, 38] {
-        cuts.push(time(&rt, seconds)).expect(&rt, "memory");
-    }
+    let cuts = cuts_at(&rt, rt.alloc(), &[10, 15, 20, 25, 30, 35, 38]);
     let mut stored = make_stored(&rt, rt.alloc(), Layout::Flat, &cuts);
     expect_joined(&rt, rt.alloc(), &mut stored);
 }
