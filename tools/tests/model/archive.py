@@ -1,0 +1,285 @@
+"""The history of an archive, and the reply to each command."""
+
+from __future__ import annotations
+
+import re
+from collections import Counter
+from dataclasses import dataclass
+from hashlib import sha256
+from struct import pack
+from typing import Iterator
+
+from .base import FOREVER, MOST_BYTES, MOST_DOCUMENTS, MOST_TEXT, MOST_VERSIONS, MOST_WORDS, PAGE, Broken, Differs, NoCommand, NotArchive, Refused
+from .journal import Place, Plan, read_entry, read_journal, spell_journal, sublist
+from .plans import GUARANTEE, SINCE, UNIFORM, Line, Posting, stretches, test_segments, test_width, told
+from .script import Item, document_of, factor_of, items, query_behind, time_of
+from .words import Query, keys, one_key
+
+
+@dataclass(frozen=True)
+class Version:
+    """From a time on a document has a text with these words, or none."""
+
+    time: int
+    text: bytes | None
+    counts: Counter[str] | None
+
+
+@dataclass(frozen=True)
+class Choice:
+    """What a program chose in a run: the entries that its journal has at the end, and the bytes that it showed."""
+
+    entries: list[bytes]
+    shown: bytes
+
+
+@dataclass(frozen=True)
+class Outcome:
+    """What a run shows on standard output and on standard error, and how it ends."""
+
+    shown: bytes
+    line: str
+    status: int
+
+
+class Archive:
+    """The history of an archive, by its entries."""
+
+    def __init__(self) -> None:
+        self.entries: list[bytes] = []
+        self.documents: dict[int, list[Version]] = {}
+        self.plans: dict[str, Plan] = {}
+        self.words: set[str] = set()
+        self.last = 0
+        self._versions, self._length = 0, len(spell_journal([]))
+
+    @classmethod
+    def loaded(cls, journal: bytes) -> Archive:
+        """The archive of a journal. (What a load tests of plans beyond their fields isn't tested here.)"""
+        archive = cls()
+        for gate, entry in read_journal(journal):
+            read = read_entry(entry, gate + 5)
+            try:
+                if not isinstance(read, Plan):
+                    archive._test_change(*read)
+            except Refused:
+                raise NotArchive(gate) from None
+            archive._enter(entry)
+        return archive
+
+    def _enter(self, entry: bytes) -> None:
+        """Appends an entry that is allowed."""
+        self.entries.append(entry)
+        self._length += 5 + len(entry)
+        read = read_entry(entry)
+        if isinstance(read, Plan):
+            self.plans[read.key] = read
+            return
+        document, self.last, text = read
+        counts = None if text is None else Counter(keys(text.decode()))
+        self.documents.setdefault(document, []).append(Version(self.last, text, counts))
+        self.words.update(counts or ())
+        self._versions += 1
+
+    # -- commands
+
+    def run(self, script: bytes, choice: Choice) -> Outcome:
+        """Carries out a script, up to a reply that the program didn't show, and tells what it is to show."""
+        shown = b""
+        try:
+            for item in items(script):
+                shown += self.shown_of(item, Choice(choice.entries, choice.shown[len(shown) :]))
+                if not choice.shown.startswith(shown):
+                    break
+        except Broken as place:
+            return Outcome(shown, f"tt_archive: script fault at byte {place}\n", 7)
+        return Outcome(shown, "", 0)
+
+    def shown_of(self, item: Item, choice: Choice) -> bytes:
+        """Carries out an item, and tells what the program is to show of it."""
+        try:
+            reply = self._reply(item, choice)
+        except (NoCommand, UnicodeDecodeError):
+            reply = ["no 1 Line"]
+        except Refused as refusal:
+            reply = [f"no {refusal}"]
+        return reply if isinstance(reply, bytes) else "".join(line + "\n" for line in reply).encode()
+
+    def _reply(self, item: Item, choice: Choice) -> list[str] | bytes:
+        match item.words:
+            case [b"arrive", document, time, _]:
+                return self._change(document_of([document]), time_of([time]), item.text)
+            case [b"delete", document, time]:
+                return self._change(document_of([document]), time_of([time]), None)
+            case [b"plan", word, b"guarantee", factor]:
+                return self._plan(word.decode(), GUARANTEE, factor_of(factor), 0, choice)
+            case [b"plan", word, b"space", factor, b"uniform"]:
+                return self._plan(word.decode(), UNIFORM, factor_of(factor), 0, choice)
+            case [b"plan", word, b"space", factor, b"since", since]:
+                return self._plan(word.decode(), SINCE, factor_of(factor), time_of([since]), choice)
+            case [b"propose", word, b"guarantee", factor]:
+                return self._propose(word.decode(), factor_of(factor), choice)
+            case [b"certificate", word]:
+                return self._certificate(word.decode())
+            case [b"find", time, _, *_]:
+                return self._find(time_of([time]), query_behind(item.line, 2))
+            case [b"between", start, end, _, *_] if time_of([start]) < time_of([end]):
+                return self._between(time_of([start]), time_of([end]), query_behind(item.line, 3))
+            case [b"show", document, time]:
+                return self._show(document_of([document]), time_of([time]))
+            case [b"verify"]:
+                return [f"sound {len(self.plans)} {sum(len(it.places) for it in self.plans.values())}"]
+        raise NoCommand
+
+    def _change(self, document: int, time: int, text: bytes | None) -> list[str]:
+        self._test_change(document, time, text)
+        head = pack(">BIQ", 2 if text is None else 1, document, time)
+        self._append(head + (text or b""))
+        return [f"ok {len(self.entries)}"]
+
+    def _append(self, entry: bytes) -> None:
+        if self._length + len(entry) + 5 > MOST_BYTES:
+            raise Refused(f"10 Full journal {MOST_BYTES}")
+        self._enter(entry)
+
+    def _test_change(self, document: int, time: int, text: bytes | None) -> None:
+        """The tests of an arrival, or of a deletion, in their order."""
+        if text is not None and len(text) > MOST_TEXT:
+            raise Refused(f"5 TooLong {MOST_TEXT}")
+        try:
+            found = set() if text is None else set(keys(text.decode()))
+        except UnicodeDecodeError as error:
+            raise Refused(f"6 BadText {error.start}") from None
+        if time < self.last:
+            raise Refused(f"2 TimeBack {self.last}")
+        versions = self.documents.get(document)
+        if text is None and (not versions or versions[-1].text is None):
+            raise Refused("4 NoDocument")
+        if versions and versions[-1].time == time:
+            raise Refused("3 SameTime")
+        if not versions and len(self.documents) >= MOST_DOCUMENTS:
+            raise Refused(f"10 Full documents {MOST_DOCUMENTS}")
+        if self._versions >= MOST_VERSIONS:
+            raise Refused(f"10 Full versions {MOST_VERSIONS}")
+        if len(self.words) + len(found - self.words) > MOST_WORDS:
+            raise Refused(f"10 Full words {MOST_WORDS}")
+
+    # -- questions
+
+    def postings(self, key: str, start: int = 0, end: int = FOREVER) -> list[Posting]:
+        """A word's list, clipped to the times from `start` on and before `end`."""
+        found = []
+        for document, versions in sorted(self.documents.items()):
+            changes = [(it.time, it.counts[key] or None if it.counts else None) for it in versions]
+            found += [Posting(document, frequency, *span) for *span, frequency in stretches(changes, start, end)]
+        return found
+
+    def _read(self, query: Query, start: int, end: int) -> int:
+        """How many postings are read for the times from `start` on and before `end`."""
+        count = 0
+        for key in query.weights:
+            plan = self.plans.get(key)
+            if plan is None:
+                count += len(self.postings(key))
+                continue
+            line = Line(self.postings(key, 0, plan.horizon), plan.horizon)
+            count += sum(line.size(*it) for it in plan.segments() if it[0] < end and start < it[1])
+            count += len(self.postings(key, plan.horizon)) if end > plan.horizon else 0
+        return count
+
+    def _find(self, time: int, asked: bytes) -> list[str]:
+        query = Query(asked)
+        scores = {document: query.score(self._alive(document, time).counts) for document in self.documents}
+        rows = sorted((-score, document) for document, score in scores.items() if score is not None)
+        hits = [f"hit {document} {-score}" for score, document in rows]
+        return [*hits, f"end {len(hits)} read {self._read(query, time, time + 1)}"]
+
+    def _between(self, start: int, end: int, asked: bytes) -> list[str]:
+        query = Query(asked)
+        spans = []
+        for document, versions in sorted(self.documents.items()):
+            scores = [(it.time, query.score(it.counts)) for it in versions]
+            spans += ["span %d %d %d %d" % (document, *span) for span in stretches(scores, start, end)]
+        return [*spans, f"end {len(spans)} read {self._read(query, start, end)}"]
+
+    def _alive(self, document: int, time: int) -> Version:
+        """The version of a document that is alive at a time; it has no text where none is."""
+        before = [it for it in self.documents.get(document, ()) if it.time <= time]
+        return before[-1] if before else Version(time, None, None)
+
+    def _show(self, document: int, time: int) -> bytes:
+        text = self._alive(document, time).text
+        return b"none\n" if text is None else b"text %d\n%b\n" % (len(text), text)
+
+    # -- plans
+
+    def _sealed(self, word: str) -> tuple[str, Line]:
+        """The key of a word that may be planned, and its list up to the last time."""
+        key = self._known(word)
+        if not self.postings(key, 0, self.last):
+            raise Refused("8 NothingSealed")
+        return key, Line(self.postings(key, 0, self.last), self.last)
+
+    def _known(self, word: str) -> str:
+        key = one_key(word)
+        if key is None:
+            raise Refused("7 NotOneTerm")
+        if key not in self.words:
+            raise Refused("13 UnknownWord")
+        return key
+
+    def _propose(self, word: str, factor: tuple[int, int], choice: Choice) -> list[str]:
+        _, line = self._sealed(word)
+        test_width(line)
+        shown = re.match(rb"(segment \d+ \d+ \d+\n)*", choice.shown)[0].splitlines()
+        segments = [(int(it.split()[1]), int(it.split()[2])) for it in shown]
+        test_segments(line, GUARANTEE, factor, 0, segments)
+        return told(line, factor, segments)
+
+    def _certificate(self, word: str) -> list[str]:
+        plan = self.plans.get(self._known(word))
+        if plan is None or plan.kind != GUARANTEE:
+            raise Refused("14 NoPlan")
+        return told(Line(self.postings(plan.key, 0, plan.horizon), plan.horizon), plan.factor, plan.segments())
+
+    def _plan(self, word: str, kind: int, factor: tuple[int, int], since: int, choice: Choice) -> list[str]:
+        key, line = self._sealed(word)
+        if kind == GUARANTEE:
+            test_width(line)
+        if len(choice.entries) <= len(self.entries):
+            raise Differs(f"entry {len(self.entries) + 1} is missing, which is to be a plan of `{word}`")
+        chosen = read_entry(choice.entries[len(self.entries)])
+        if not isinstance(chosen, Plan) or chosen.horizon != self.last:
+            raise Differs(f"entry {len(self.entries) + 1} is no plan of `{word}` up to {self.last}")
+        segments = chosen.segments()
+        test_segments(line, kind, factor, since, segments)
+        places = self._placed(key, segments, chosen)
+        self._append(Plan(chosen.layout, kind, since, factor, self.last, key, places).entry())
+        space = sum(line.size(*it) for it in segments)
+        cost = f" cost {line.cheapest(factor, since)}" if kind != GUARANTEE else ""
+        plan = f"plan {len(self.entries)} segments {len(segments)} space {space} full {line.full} horizon {self.last}"
+        return [plan + cost]
+
+    def _placed(self, key: str, segments: list[tuple[int, int]], chosen: Plan) -> tuple[Place, ...]:
+        """Where the sublists of a new plan lie: each in the lowest run of free pages. (What stands as the first page of a sublist
+        without bytes has no meaning, and is taken as it was chosen.)"""
+        taken = {page for plan in self.plans.values() for place in plan.places for page in place.pages()}
+        places = []
+        for (start, end), was in zip(segments, chosen.places):
+            content = self.content(key, start, end, chosen.horizon, chosen.layout)
+            place = Place(start, 0 if content else was.page, len(content), sha256(content).digest())
+            while not taken.isdisjoint(place.pages()):
+                place = Place(start, place.page + 1, place.size, place.digest)
+            taken.update(place.pages())
+            places.append(place)
+        return tuple(places)
+
+    def content(self, key: str, start: int, end: int, horizon: int, layout: int) -> bytes:
+        """The bytes of a segment's sublist: of the postings that have a time in it, each up to the horizon."""
+        return sublist([it for it in self.postings(key, 0, horizon) if it.start < end and start < it.end], layout)
+
+    def live_sublists(self) -> Iterator[tuple[int, bytes]]:
+        """Each place in Pages, and what it is to hold."""
+        for key, plan in self.plans.items():
+            for (start, end), place in zip(plan.segments(), plan.places):
+                yield place.page * PAGE, self.content(key, start, end, plan.horizon, plan.layout)
