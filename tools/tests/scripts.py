@@ -257,8 +257,16 @@ class Folder:
 
     def run(self, script: bytes) -> Outcome:
         """What the program shows of a script, and how it ends."""
-        ended = subprocess.run([self.program], cwd=self.path, input=script, capture_output=True, timeout=MOST_SECONDS)
-        return Outcome(ended.stdout, ended.stderr.decode(errors="replace"), ended.returncode)
+        return self.run_as([self.program], script)
+
+    def run_as(self, command: list[str], script: bytes, **given: object) -> Outcome:
+        """The same of a command, with the script in a file as standard input, and with what else is given."""
+        path = self.path / "script"
+        path.write_bytes(script)
+        with path.open("rb") as source:
+            streams = {"stdin": source, "stdout": subprocess.PIPE, "stderr": subprocess.PIPE, **given}
+            ended = subprocess.run(command, cwd=self.path, timeout=MOST_SECONDS, **streams)
+        return Outcome(ended.stdout or b"", (ended.stderr or b"").decode(errors="replace"), ended.returncode)
 
     def difference(self, script: bytes) -> str:
         """Runs a script; where the program differs from the model, how it does."""

@@ -256,7 +256,7 @@ class Archive:
         places = self._placed(key, segments, chosen)
         self._append(Plan(chosen.layout, kind, since, factor, self.last, key, places).entry())
         space = sum(line.size(*it) for it in segments)
-        cost = f" cost {line.cheapest(factor, since)}" if kind != GUARANTEE else ""
+        cost = f" cost {sum(line.cost(*it, since) for it in segments)}" if kind != GUARANTEE else ""
         plan = f"plan {len(self.entries)} segments {len(segments)} space {space} full {line.full} horizon {self.last}"
         return [plan + cost]
 
@@ -264,9 +264,9 @@ class Archive:
         """Where the sublists of a new plan lie: each in the lowest run of free pages. (What stands as the first page of a sublist
         without bytes has no meaning, and is taken as it was chosen.)"""
         taken = {page for plan in self.plans.values() for place in plan.places for page in place.pages()}
-        places = []
+        postings, places = self.postings(key, 0, chosen.horizon), []
         for (start, end), was in zip(segments, chosen.places):
-            content = self.content(key, start, end, chosen.horizon, chosen.layout)
+            content = sublist(postings, start, end, chosen.layout)
             place = Place(start, 0 if content else was.page, len(content), sha256(content).digest())
             while not taken.isdisjoint(place.pages()):
                 place = Place(start, place.page + 1, place.size, place.digest)
@@ -274,12 +274,9 @@ class Archive:
             places.append(place)
         return tuple(places)
 
-    def content(self, key: str, start: int, end: int, horizon: int, layout: int) -> bytes:
-        """The bytes of a segment's sublist: of the postings that have a time in it, each up to the horizon."""
-        return sublist([it for it in self.postings(key, 0, horizon) if it.start < end and start < it.end], layout)
-
     def live_sublists(self) -> Iterator[tuple[int, bytes]]:
         """Each place in Pages, and what it is to hold."""
         for key, plan in self.plans.items():
+            postings = self.postings(key, 0, plan.horizon)
             for (start, end), place in zip(plan.segments(), plan.places):
-                yield place.page * PAGE, self.content(key, start, end, plan.horizon, plan.layout)
+                yield place.page * PAGE, sublist(postings, start, end, plan.layout)

@@ -50,8 +50,9 @@ class Plan:
         return head + key + pack(">I", len(self.places)) + places
 
 
-def sublist(postings: list[Posting], layout: int) -> bytes:
-    """The bytes of a sublist."""
+def sublist(postings: list[Posting], start: int, end: int, layout: int) -> bytes:
+    """The bytes of a segment's sublist: of the postings of a list that have a time in the segment."""
+    postings = [it for it in postings if it.start < end and start < it.end]
     if layout == FLAT:
         return b"".join(pack(">IIQQ", it.document, it.frequency, it.start, it.end) for it in postings)
     return b"".join(_block(postings[at : at + 128]) for at in range(0, len(postings), 128))
