@@ -1,0 +1,101 @@
+"""Files that were damaged: cut short, or with other bytes. (The rows of `rows_changes` and `rows_checks` have more, on the machine
+in memory.)"""
+
+from __future__ import annotations
+
+from model import HEADER, PAGE, Outcome
+from scripts import Folder
+
+from attacks.rig import ends, expect
+
+ONE_SCRIPT = b"arrive 7 10 5\nred a\n"
+FORMATS_SCRIPT = b"arrive 1 10 1\nv\narrive 2 20 1\nv\ndelete 2 30\ndelete 1 40\nplan v guarantee 1/1\n"
+#: The archive of docs/formats.md: the gate of its plan, and the bytes of its first sublist.
+PLAN_GATE, FIRST_SUBLIST = 90, 18
+
+
+def not_archive(place: int) -> Outcome:
+    return Outcome(b"", f"tt_archive: not an archive at byte {place} of the journal\n", 3)
+
+
+def journals(one: bytes) -> list[tuple[str, bytes, int | None]]:
+    """Damaged journals of the archive with one arrival, each with the place that shows it (none where it is an archive's)."""
+
+    def with_byte(place: int, byte: int) -> bytes:
+        return one[:place] + bytes([byte]) + one[place + 1 :]
+
+    return [
+        *((f"cut to {length} bytes", one[:length], None) for length in range(18)),
+        *((f"cut to {length} bytes", one[:length], 16) for length in range(18, len(one))),
+        ("another header", with_byte(5, 0x3F), 5),
+        ("a closed gate", with_byte(16, 0), None),
+        ("a length past the end", with_byte(20, 0x13), 16),
+        ("a deletion with bytes behind it", with_byte(21, 2), 34),
+        ("an unknown tag", with_byte(21, 9), 21),
+        ("a time past all times", with_byte(26, 0xFF), 26),
+        ("a text that isn't UTF-8", with_byte(34, 0xFF), 34),
+        ("the arrival twice", one[:39] + one[16:39] + b"\0", 39),
+    ]
+
+
+def damage_journals(program: str, audit: str) -> str:
+    with Folder(program) as folder:
+        folder.run(ONE_SCRIPT)
+        one = folder.journal.read_bytes()
+        expect(len(one) == 40, f"the journal of one arrival has {len(one)} bytes")
+        table = journals(one)
+        for what, journal, place in table:
+            folder.journal.write_bytes(journal)
+            outcome = folder.run(b"")
+            wanted = Outcome(b"", "", 0) if place is None else not_archive(place)
+            expect(outcome == wanted, f"a journal with {what}, {journal.hex()}: {outcome}, and not {wanted}")
+            left = HEADER + b"\0" if len(journal) <= 17 else journal
+            expect(folder.journal.read_bytes() == left, f"a journal with {what}, {journal.hex()}, is left as {folder.journal.read_bytes().hex()}")
+            audited = ends([audit], folder.path)
+            told = Outcome(b"sound 0 0\n", "", 0) if place is None else Outcome(b"", wanted.line.replace("tt_archive", "tt_verify"), 3)
+            expect(audited == told, f"an audit of a journal with {what}: {audited}, and not {told}")
+            if place is None:
+                outcome = folder.run(b"find 10 red\n")
+                expect(outcome.shown == b"end 0 read 0\n", f"a journal with {what} has an entry: {outcome}")
+    return f"{len(table)} damaged journals"
+
+
+def damage_pages(program: str, audit: str) -> str:
+    with Folder(program) as folder:
+        expect(not (difference := folder.difference(FORMATS_SCRIPT)), f"the archive of docs/formats.md: {difference}")
+        journal, pages = folder.journal.read_bytes(), folder.pages.read_bytes()
+        *_, (last, content) = folder.archive.live_sublists()
+        end = last + len(content)
+        cuts = [0, 1, FIRST_SUBLIST - 1, PAGE, last, end - 1]
+        for length in cuts:
+            folder.pages.write_bytes(pages[:length])
+            outcome = folder.run(b"find 25 v\n")
+            expect(outcome == not_archive(PLAN_GATE), f"Pages cut to {length} bytes: {outcome}")
+            expect(folder.journal.read_bytes() == journal, f"Pages cut to {length} bytes: the journal is changed")
+        folder.pages.write_bytes(pages[:end])
+        expect(not (difference := folder.difference(b"verify\nfind 35 v\n")), f"Pages cut to {end} bytes: {difference}")
+        for place in range(FIRST_SUBLIST):
+            _damage_byte(folder, audit, pages, place)
+    return f"{len(cuts)} cuts of Pages, and {FIRST_SUBLIST} sublists with another byte"
+
+
+def _damage_byte(folder: Folder, audit: str, pages: bytes, place: int) -> None:
+    """One byte of the first sublist is another: a question that reads it ends the run, others don't, a check names its place, and a new
+    plan mends it."""
+    byte = pages[place] ^ 0x40
+    folder.pages.write_bytes(pages[:place] + bytes([byte]) + pages[place + 1 :])
+    what = f"the byte {place} of the first sublist is {byte:02x}"
+    outcome = folder.run(b"find 25 v\nfind 15 v\nfind 25 v\n")
+    shown = b"hit 1 1\nhit 2 1\nend 2 read 2\n"
+    wanted = Outcome(shown, "tt_archive: damaged sublist at page 0: digest\n", 8)
+    expect(outcome == wanted, f"{what}: {outcome}, and not {wanted}")
+    differs = b"differs v 0 %d %02x %02x\n" % (place, byte, pages[place])
+    outcome = folder.run(b"verify\nfind 25 v\n")
+    expect(outcome == Outcome(differs + shown, "", 0), f"{what}: {outcome}, and not {differs!r}")
+    outcome = ends([audit], folder.path)
+    expect(outcome == Outcome(differs, "tt_verify: not sound\n", 1), f"{what}: the audit: {outcome}, and not {differs!r}")
+    kept = folder.journal.read_bytes()
+    outcome = folder.run(b"plan v guarantee 1/1\nfind 15 v\nverify\n")
+    mended = b"plan 6 segments 3 space 4 full 2 horizon 40\nhit 1 1\nend 1 read 1\nsound 1 3\n"
+    expect(outcome == Outcome(mended, "", 0), f"{what}, and the word is planned anew: {outcome}")
+    folder.journal.write_bytes(kept)

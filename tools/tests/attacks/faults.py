@@ -1,0 +1,132 @@
+"""Calls of the system that fail, each in turn, and a death at each call. strace makes them so, on the real files."""
+
+from __future__ import annotations
+
+import re
+from collections import Counter
+from dataclasses import dataclass
+from typing import Iterator
+
+from model import Outcome
+from scripts import Folder
+
+from attacks.rig import AUDIT_FAULT, DISK_FAULT, NO_LOCKS, SCRIPT, SINK_FAULT, SOURCE_FAULT, Whole, expect, nothing, some
+
+FILES = [".", "archive.journal", "archive.pages"]
+CALL = re.compile(r"^\d+ +(\w+)\(", re.MULTILINE)
+READS = {"read", "pread64", "readv", "preadv", "preadv2"}
+WRITES = {"write", "pwrite64", "writev", "pwritev", "pwritev2"}
+SYNCS = {"fsync", "fdatasync", "sync_file_range"}
+#: What is made of the nth call: it fails, is to be made again, or moves no byte. The last of them makes all later ones fail too.
+FAULTS = {
+    **{name: ["error=EIO:when={}", "error=EINTR:when={}", "retval=0:when={}", "error=EIO:when={}+"] for name in READS},
+    **{name: ["error=EIO:when={}", "error=ENOSPC:when={}", "error=EINTR:when={}", "retval=0:when={}", "error=ENOSPC:when={}+"] for name in WRITES},
+    **{name: ["error=EIO:when={}", "error=ENOSPC:when={}", "error=EINTR:when={}", "error=EIO:when={}+"] for name in SYNCS},
+}
+OTHERS = ["error=EIO:when={}", "error=ENOMEM:when={}"]
+#: A program learns nothing of whether it could close a file.
+UNASKED = {"close"}
+
+
+@dataclass(frozen=True)
+class Tracer:
+    """A program under strace, for its calls on some files of its folder alone."""
+
+    program: str
+    names: list[str]
+
+    def run(self, folder: Folder, *words: str) -> Outcome:
+        """Runs the script; the streams are files of the folder too."""
+        watched = [it for name in self.names for path in (name, str(folder.path / name)) for it in ("-P", path)]
+        with open(folder.path / "shown", "wb") as shown:
+            outcome = folder.run_as(["strace", "-f", "-qq", "-o", "calls", *watched, *words, self.program], SCRIPT, stdout=shown)
+        lines = [it for it in outcome.line.splitlines(keepends=True) if not it.startswith("strace: Requested path")]
+        return Outcome((folder.path / "shown").read_bytes(), "".join(lines), outcome.status)
+
+    def faults(self, folder: Folder, wanted: Outcome, step: int) -> Iterator[tuple[str, str]]:
+        """Runs the script without faults. Gives each call that it made, and what may be made of it, or of each so many one."""
+        outcome = self.run(folder)
+        expect(outcome == wanted, f"a traced run without faults: {outcome}")
+        calls = Counter(CALL.findall((folder.path / "calls").read_text()))
+        tries = [(name, fault.format(nth)) for name in calls for fault in FAULTS.get(name, OTHERS) for nth in range(1, calls[name] + 1)]
+        yield from (it for it in tries[::step] if it[0] not in UNASKED)
+
+    def run_with(self, folder: Folder, name: str, fault: str) -> Outcome:
+        """Runs the script with what is made of a call."""
+        outcome = self.run(folder, "-e", f"inject={name}:{fault}")
+        expect("INJECTED" in (folder.path / "calls").read_text(), f"{name} with {fault}: the call isn't made")
+        return outcome
+
+
+def fail_calls(program: str, audit: str, *, is_all: bool) -> str:
+    """Each call on the files fails once; the run ends as it is to, and nothing is lost."""
+    told, tracer = Counter[str](), Tracer(program, FILES)
+    for fill in (nothing, some):
+        whole = Whole.of(program, fill)
+        with Folder(program) as first:
+            fill(first)
+            for name, fault in tracer.faults(first, Outcome(whole.shown, "", 0), 1 if is_all else 3):
+                with Folder(program) as folder:
+                    fill(folder)
+                    outcome = tracer.run_with(folder, name, fault)
+                    what = f"{name} with {fault} on {'a new archive' if fill is nothing else 'an archive with plans'}"
+                    whole.check_cut(folder, outcome, [NO_LOCKS if name == "flock" else DISK_FAULT], what)
+                    told[name] += 1
+    return f"{told.total()} calls on files that fail ({', '.join(f'{count} of {name}' for name, count in sorted(told.items()))})"
+
+
+def fail_streams(program: str, audit: str) -> str:
+    """Each call on the standard streams fails once."""
+    whole, count = Whole.of(program, some), 0
+    for stream, calls, allowed in (("script", READS, SOURCE_FAULT), ("shown", WRITES, SINK_FAULT)):
+        tracer = Tracer(program, [stream])
+        with Folder(program) as first:
+            some(first)
+            for name, fault in tracer.faults(first, Outcome(whole.shown, "", 0), 1):
+                if name not in calls or (stream == "script" and fault.startswith("retval=0")):
+                    continue  # (a read of no byte is the end of the script)
+                with Folder(program) as folder:
+                    some(folder)
+                    outcome = tracer.run_with(folder, name, fault)
+                    whole.check_cut(folder, outcome, [allowed], f"{name} with {fault} of the {stream}")
+                    count += 1
+    return f"{count} calls on streams that fail"
+
+
+def fail_audits(program: str, audit: str) -> str:
+    """Each call of an audit fails once: it tells so, or what it tells is right, and no file is changed."""
+    count = 0
+    with Folder(program) as folder:
+        some(folder)
+        files = [folder.journal.read_bytes(), folder.pages.read_bytes()]
+        whole = Outcome(b"sound 2 2\n", "", 0)
+        for names, allowed in ((FILES, AUDIT_FAULT), (["shown"], Outcome(b"", "tt_verify: sink fault\n", 6))):
+            tracer = Tracer(audit, names)
+            for name, fault in tracer.faults(folder, whole, 1):
+                outcome = tracer.run_with(folder, name, fault)
+                no_locks = Outcome(b"", NO_LOCKS.line.replace("tt_archive", "tt_verify"), 4)
+                wanted = no_locks if name == "flock" else allowed
+                expect(outcome in (whole, wanted), f"an audit, and {name} with {fault}: {outcome}")
+                expect([folder.journal.read_bytes(), folder.pages.read_bytes()] == files, f"an audit changes a file at {name} with {fault}")
+                count += 1
+    return f"{count} calls of audits that fail"
+
+
+def die_at_calls(program: str, audit: str) -> str:
+    """The program is killed at each call on the files that makes, changes or syncs one, before the call is made."""
+    count, tracer = 0, Tracer(program, FILES)
+    for fill in (nothing, some):
+        whole = Whole.of(program, fill)
+        with Folder(program) as first:
+            fill(first)
+            calls = {it for it, _ in tracer.faults(first, Outcome(whole.shown, "", 0), 1)} & {*WRITES, *SYNCS, "openat", "ftruncate"}
+            times = Counter(CALL.findall((first.path / "calls").read_text()))
+        for name, nth in [(name, nth) for name in sorted(calls) for nth in range(1, times[name] + 1)]:
+            with Folder(program) as folder:
+                fill(folder)
+                outcome = tracer.run(folder, "-e", f"inject={name}:signal=KILL:when={nth}")
+                what = f"a death at call {nth} of {name}"
+                expect(outcome.status in (-9, 137), f"{what}: {outcome}")
+                whole.check_cut(folder, outcome, [outcome], what)
+                count += 1
+    return f"{count} deaths at calls on files"

@@ -1,0 +1,71 @@
+"""Archives at their limits. Most of their journals are written here, so that the program has only to load them."""
+
+from __future__ import annotations
+
+from struct import pack
+from typing import Iterable
+
+from model import Outcome, spell_journal
+from scripts import Folder
+
+from attacks.rig import expect
+
+DOCUMENTS, VERSIONS, WORDS, BOUNDARIES, TEXT = 1 << 20, 1 << 22, 1 << 20, 1 << 20, 1 << 22
+
+
+def _arrival(document: int, time: int, text: bytes) -> bytes:
+    return pack(">BIQ", 1, document, time) + text
+
+
+def _arrive(document: int, time: int, text: bytes) -> bytes:
+    return b"arrive %d %d %d\n%b\n" % (document, time, len(text), text)
+
+
+def _expect(program: str, what: str, entries: Iterable[bytes], script: bytes, shown: bytes) -> None:
+    """With these entries in its journal the program shows this of a script."""
+    with Folder(program) as folder:
+        folder.journal.write_bytes(spell_journal(entries))
+        outcome = folder.run(script)
+        expect(outcome == Outcome(shown, "", 0), f"{what}: {outcome}, and not {shown!r}"[:2_000])
+
+
+def reach_limits(program: str, audit: str) -> str:
+    """As much of each as there may be, and one more."""
+    _expect(
+        program,
+        "the longest text, and one that is longer",
+        [],
+        _arrive(1, 1, b"v" + bytes(TEXT)) + _arrive(1, 1, b"v" + bytes(TEXT - 1)) + b"find 1 v\n" + _arrive(2, 1, bytes(TEXT) + b"\xff"),
+        b"no 5 TooLong 4194304\nok 1\nhit 1 1\nend 1 read 1\nno 5 TooLong 4194304\n",
+    )
+    _expect(
+        program,
+        "an archive with all documents",
+        (_arrival(document, 1, b"") for document in range(DOCUMENTS)),
+        b"arrive 1048576 2 1\nv\narrive 1048575 2 1\nv\ndelete 0 2\narrive 0 3 0\n\narrive 1048576 4 0\n\nfind 5 v\n",
+        b"no 10 Full documents 1048576\nok 1048577\nok 1048578\nok 1048579\nno 10 Full documents 1048576\nhit 1048575 1\nend 1 read 1\n",
+    )
+    _expect(
+        program,
+        "an archive with all versions but one",
+        (_arrival(at % 9, at, b"") for at in range(VERSIONS - 1)),
+        b"arrive 0 4194303 0\n\narrive 0 4194304 1\nv\ndelete 0 4194304\narrive 10 4194304 1\nv\nfind 4194304 v\nverify\n",
+        b"ok 4194304\n" + 3 * b"no 10 Full versions 4194304\n" + b"end 0 read 0\nsound 0 0\n",
+    )
+    half = WORDS // 2
+    texts = [b" ".join(b"%07x" % number for number in range(at, at + half)) for at in (0, half)]
+    _expect(
+        program,
+        "an archive with all words",
+        (_arrival(document, 1, text) for document, text in enumerate(texts)),
+        _arrive(2, 2, b"one more") + _arrive(2, 2, b"0000000 00fffff") + b"find 2 00fffff\nfind 2 more\ncertificate more\n",
+        b"no 10 Full words 1048576\nok 3\nhit 1 1\nhit 2 1\nend 2 read 2\nend 0 read 0\nno 13 UnknownWord\n",
+    )
+    _expect(
+        program,
+        "a word with one boundary more than there may be",
+        (_arrival(1, at, b"" if at % 2 else b"v") for at in range(BOUNDARIES)),
+        b"arrive 1 1048576 1\nv\npropose v guarantee 2/1\nplan v guarantee 1/1\nfind 1000000 v\nverify\n",
+        b"ok 1048577\n" + 2 * b"no 9 TooWide 1048577\n" + b"hit 1 1\nend 1 read 524289\nsound 0 0\n",
+    )
+    return "5 limits, and what goes beyond them"

@@ -1,0 +1,184 @@
+"""Files, folders and streams that aren't what they should be, and disks that are full."""
+
+from __future__ import annotations
+
+import os
+import resource
+import shutil
+import signal
+import subprocess
+from pathlib import Path
+from typing import Callable
+
+from model import HEADER, Outcome
+from scripts import Folder
+
+from attacks.rig import AUDIT_FAULT, DISK_FAULT, NEXT_SCRIPT, SCRIPT, SINK_FAULT, SOURCE_FAULT, Whole, acknowledged, ends, expect, nothing, some
+
+DONE = Outcome(b"", "", 0)
+#: The length of a file that is nearly nothing but a hole.
+SPARSE = 3 << 30
+PLANNED = b"arrive 1 10 1\nv\ndelete 1 20\nplan v guarantee 1/1\n"
+
+
+def odd_files(program: str, audit: str) -> str:
+    """A journal, or Pages, that is no plain file, or a link. Where the program can't use it, it ends with status 4."""
+    refused: list[tuple[str, Callable[[Path], None]]] = [
+        ("a folder", Path.mkdir),
+        ("a pipe", os.mkfifo),
+        ("a link to itself", lambda path: path.symlink_to(path.name)),
+        ("a link into no folder", lambda path: path.symlink_to("no/file")),
+        ("a link to a device that is full", lambda path: path.symlink_to("/dev/full")),
+    ]
+    for what, make in refused:
+        for name in ("archive.journal", "archive.pages"):
+            with Folder(program) as folder:
+                if name == "archive.pages":
+                    folder.journal.write_bytes(HEADER + b"\0")
+                make(folder.path / name)
+                outcome = folder.run(PLANNED)
+                expect((outcome.status, outcome.line) == (DISK_FAULT.status, DISK_FAULT.line), f"{name} is {what}: {outcome}")
+    for what in ("a link to a file", "a link to nothing"):
+        with Folder(program) as folder:
+            (folder.path / "other").mkdir()
+            for path in (folder.journal, folder.pages):
+                path.symlink_to(Path("other") / path.name)
+                if what == "a link to a file":
+                    path.resolve().touch()
+            told, wanted = ends([audit], folder.path), Outcome(b"sound 0 0\n", "", 0) if what == "a link to a file" else AUDIT_FAULT
+            expect(told == wanted, f"an audit where each file is {what}: {told}")
+            for script in (SCRIPT, NEXT_SCRIPT):
+                expect(not (difference := folder.difference(script)), f"each file is {what}: {difference}")
+            expect(folder.journal.is_symlink() and folder.journal.resolve().is_file(), f"the journal is no more {what}")
+    return f"{2 * len(refused)} files that are none, and 2 links to files"
+
+
+def odd_folders(program: str, audit: str) -> str:
+    """Folders in which no file can be made, and processes that may have few files open."""
+    with Folder(program) as folder:
+        gone = folder.path / "gone"
+        gone.mkdir()
+        outcome = ends([program], gone, preexec_fn=gone.rmdir)
+        expect(outcome == DISK_FAULT, f"a program in a folder that was deleted: {outcome}")
+    whole, limits = Whole.of(program, some), range(4, 9)
+    for limit in limits:  # (3 are the streams, and what loads the program takes another)
+        with Folder(program) as folder:
+            whole.fill(folder)
+            outcome = folder.run_as(["/bin/sh", "-c", f'ulimit -n {limit}; exec "$0"', program], SCRIPT)
+            whole.check_cut(folder, outcome, [DISK_FAULT], f"a program that may have {limit} files open")
+    with Folder(program) as folder:
+        copy = folder.path / "program"
+        shutil.copy(program, copy)
+        copy.chmod(0o755)
+        folder.path.chmod(0o555)
+        nobody = ["setpriv", "--reuid=65534", "--regid=65534", "--clear-groups"] if os.geteuid() == 0 else []
+        if nobody and shutil.which("setpriv") is None:
+            return f"a folder that is gone, and {len(limits)} limits of open files (without setpriv, none that can't be written)"
+        outcome = ends([*nobody, str(copy)], folder.path)
+        folder.path.chmod(0o755)
+        expect(outcome == DISK_FAULT, f"a program in a folder that can't be written: {outcome}")
+        expect(os.listdir(folder.path) == ["program"], f"a program in a folder that can't be written leaves {os.listdir(folder.path)}")
+    return f"2 folders that can't be used, and {len(limits)} limits of open files"
+
+
+def sparse_files(program: str, audit: str) -> str:
+    """An archive whose files go on for 3 GB behind their end: these bytes have no meaning."""
+    with Folder(program) as folder:
+        some(folder)
+        folder.was_cut = True
+        for path in (folder.journal, folder.pages):
+            os.truncate(path, SPARSE)
+        outcome = folder.run(NEXT_SCRIPT)
+        with folder.journal.open("rb") as journal, folder.pages.open("rb") as pages:
+            difference = folder.difference_of(NEXT_SCRIPT, outcome, journal.read(1 << 16), pages.read(1 << 16))
+        expect(not difference, f"an archive with a hole of 3 GB behind it: {difference}")
+        told = ends([audit], folder.path)
+        expect((told.status, told.line) == (0, ""), f"an audit of an archive with a hole of 3 GB behind it: {told}")
+        for path in (folder.journal, folder.pages):
+            taken = path.stat().st_blocks * 512
+            expect(path.stat().st_size == SPARSE and taken < 1 << 20, f"{path.name} has {path.stat().st_size} bytes now, and takes {taken}")
+    return "2 files with a hole of 3 GB behind them"
+
+
+def odd_streams(program: str, audit: str) -> str:
+    """Streams that can't be read or written, or are closed. What was acknowledged stays."""
+    whole = Whole.of(program, some)
+    reader, writer = os.pipe()
+    os.close(reader)
+    root = os.open("/", os.O_RDONLY)
+    with open(os.devnull, "rb") as source, open("/dev/full", "wb") as full:
+        tries: list[tuple[str, dict[str, object], Outcome]] = [
+            ("standard input is a folder", {"stdin": root}, SOURCE_FAULT),
+            ("standard input can't be read", {"stdin": full}, SOURCE_FAULT),
+            ("standard output is full", {"stdout": full}, SINK_FAULT),
+            ("standard output can't be written", {"stdout": source}, SINK_FAULT),
+            ("nobody reads standard output", {"stdout": writer}, SINK_FAULT),
+        ]
+        for what, streams, wanted in tries:
+            with Folder(program) as folder:
+                whole.fill(folder)
+                outcome = folder.run_as([program], SCRIPT, **streams)
+                expect(outcome == wanted, f"{what}: {outcome}")
+                whole.check_cut(folder, outcome, [wanted], what)
+    os.close(root)
+    os.close(writer)
+    # A stream that is closed: no file of the archive may come to stand in its place.
+    closed = {"<&-": SOURCE_FAULT, ">&-": SINK_FAULT, "2>&-": DONE, "<&- >&-": SOURCE_FAULT, "<&- >&- 2>&-": Outcome(b"", "", 5), ">&- 2>&-": Outcome(b"", "", 6)}
+    for words, wanted in closed.items():
+        with Folder(program) as folder:
+            whole.fill(folder)
+            outcome = folder.run_as(["/bin/sh", "-c", f'exec "$0" {words}', program], SCRIPT)
+            whole.check_cut(folder, outcome, [wanted], f"a program with {words}")
+    return f"{len(tries) + len(closed)} streams that can't be used"
+
+
+def full_disks(program: str, audit: str, *, is_all: bool) -> str:
+    """Files that may not grow beyond each size in turn, and where a file system can be mounted, small disks."""
+    count = 0
+    for fill in (nothing, some):
+        whole = Whole.of(program, fill)
+        with Folder(program) as folder:
+            whole.fill(folder)
+            least = folder.journal.stat().st_size if folder.journal.exists() else 0
+        for limit in [*range(least, 1_600, 1 if is_all else 19), *range(4_096, 24_576, 64 if is_all else 1_117)]:
+            with Folder(program) as folder:
+                whole.fill(folder)
+                outcome = folder.run_as([program], SCRIPT, preexec_fn=lambda: _limit(limit), restore_signals=False)
+                whole.check_cut(folder, outcome, [DISK_FAULT], f"files of at most {limit} bytes")
+                count += 1
+    return f"{count} limits of a file's size, " + _small_disks(program)
+
+
+def _limit(size: int) -> None:
+    """In a process to be: no file may grow beyond a size, and a write that would fails."""
+    signal.signal(signal.SIGXFSZ, signal.SIG_IGN)
+    resource.setrlimit(resource.RLIMIT_FSIZE, (size, size))
+
+
+#: A plan with so many sublists that it takes many pages, and then another.
+MANY_PAGES = b"".join(b"arrive %d %d 3\nred\n" % (at, at) for at in range(1, 41)) + b"plan red guarantee 1/1\nplan red guarantee 3/2\nverify\n"
+
+
+def _small_disks(program: str) -> str:
+    """Small disks, on which there is no room for all."""
+    whole, sizes, faults = Whole.of(program, nothing, MANY_PAGES), range(4_096, 300_000, 12_288), 0
+    with Folder(program) as folder:
+        disk = folder.path / "disk"
+        disk.mkdir()
+        for size in sizes:
+            mounted = subprocess.run(["mount", "-t", "tmpfs", "-o", f"size={size},mode=700", "tmpfs", disk], capture_output=True)
+            if mounted.returncode != 0:
+                return "and no small disk, since none can be mounted here"
+            try:
+                outcome = Folder(program, disk).run(MANY_PAGES)
+                shutil.copytree(disk, folder.path / "saved")
+            finally:
+                subprocess.run(["umount", disk], check=True)
+            what = f"a disk of {size} bytes"
+            expect((outcome.status, outcome.line) in [(0, ""), (4, DISK_FAULT.line)], f"{what}: {outcome}")
+            expect(whole.shown.startswith(outcome.shown), f"{what}: {outcome.shown!r} is no front of {whole.shown!r}")
+            faults += outcome.status == 4
+            saved = Folder(program, folder.path / "saved")
+            with saved:
+                whole.check_next(saved, acknowledged(outcome.shown), what)
+    return f"and {len(sizes)} small disks, {faults} of them too small"

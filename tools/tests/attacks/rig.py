@@ -1,0 +1,146 @@
+"""What the attacks share: a run without faults to compare with, and what has to hold after one that was cut short."""
+
+from __future__ import annotations
+
+import os
+import re
+import shutil
+import subprocess
+from dataclasses import dataclass
+from pathlib import Path
+from typing import Callable
+
+from model import Archive, NotArchive, Outcome
+from scripts import MOST_SECONDS, Folder
+
+#: Changes of each kind and questions. No text of it has a line that looks like a reply.
+SCRIPT = b"""arrive 1 10 5
+red a
+arrive 2 12 8
+red blue
+plan red guarantee 1/1
+find 11 red
+arrive 1 20 9
+blue blue
+delete 2 25
+arrive 3 25 3
+red
+plan red space 2/1 uniform
+plan blue guarantee 3/2
+find 21 red or blue
+between 5 30 blue not a
+verify
+delete 9 30
+show 2 15
+arrive 2 40 8
+red blue
+"""
+#: What is asked and changed in the run after.
+NEXT_SCRIPT = b"""verify
+show 1 15
+show 2 15
+show 3 30
+find 11 red
+find 13 red or blue
+find 22 blue
+between 0 100 red or blue
+certificate red
+certificate blue
+arrive 4 50 28
+red, and blue, and red again
+arrive 1 60 3
+red
+plan red guarantee 1/1
+plan blue space 3/1 since 20
+delete 1 70
+find 55 red
+between 10 80 blue or red
+certificate red
+verify
+"""
+DISK_FAULT = Outcome(b"", "tt_archive: disk fault\n", 4)
+AUDIT_FAULT = Outcome(b"", "tt_verify: disk fault\n", 4)
+NO_LOCKS = Outcome(b"", "tt_archive: this folder's file system has no locks\n", 4)
+SOURCE_FAULT = Outcome(b"", "tt_archive: source fault\n", 5)
+SINK_FAULT = Outcome(b"", "tt_archive: sink fault\n", 6)
+NO_MEMORY = Outcome(b"", "tt_archive: no memory\n", 12)
+
+
+class Wrong(Exception):
+    """Something isn't as it is to be."""
+
+
+def expect(holds: bool, what: str) -> None:
+    if not holds:
+        raise Wrong(what)
+
+
+def ends(command: list[str], folder: Path, **streams: object) -> Outcome:
+    """How a command ends in a folder."""
+    given = {"stdin": subprocess.DEVNULL, "stdout": subprocess.PIPE, "stderr": subprocess.PIPE, **streams}
+    ended = subprocess.run(command, cwd=folder, timeout=MOST_SECONDS, **given)
+    return Outcome(ended.stdout or b"", (ended.stderr or b"").decode(errors="replace"), ended.returncode)
+
+
+def acknowledged(shown: bytes) -> int:
+    """How many entries the replies that are whole acknowledge."""
+    replies = re.findall(rb"^(?:ok|plan) (\d+)\b.*\n", shown, re.MULTILINE)
+    return int(replies[-1]) if replies else 0
+
+
+@dataclass(frozen=True)
+class Whole:
+    """A run of a script without faults, in a folder that is filled before, which went as the model says."""
+
+    fill: Callable[[Folder], None]
+    script: bytes
+    shown: bytes
+    entries: list[bytes]
+    entries_before: int
+
+    @classmethod
+    def of(cls, program: str, fill: Callable[[Folder], None], script: bytes = SCRIPT) -> Whole:
+        with Folder(program) as folder:
+            fill(folder)
+            before = len(folder.archive.entries)
+            difference = folder.difference(script)
+            expect(not difference, f"a run without faults: {difference}")
+            return cls(fill, script, folder.shown, folder.archive.entries, before)
+
+    def check_cut(self, folder: Folder, outcome: Outcome, allowed: list[Outcome], what: str) -> None:
+        """What holds after a run of the script that may have been cut short: what it showed is a front of the replies, its end is one
+        of these, and the next run has each entry that was acknowledged, at most one more, and goes on as the model says."""
+        expect(self.shown.startswith(outcome.shown), f"{what}: shows {outcome.shown!r}, and not a front of {self.shown!r}")
+        is_whole = outcome == Outcome(self.shown, "", 0)
+        ends_so = any((outcome.status, outcome.line) == (it.status, it.line) for it in allowed)
+        expect(is_whole or ends_so, f"{what}: ends with {outcome.status} and {outcome.line!r}, having shown {outcome.shown!r}")
+        self.check_next(folder, max(self.entries_before, acknowledged(outcome.shown)), what)
+
+    def check_next(self, folder: Folder, count: int, what: str) -> None:
+        """The journal has so many of the entries or one more, and the next run goes on as the model says."""
+        try:
+            folder.archive = Archive.loaded(folder.journal.read_bytes() if folder.journal.exists() else b"")
+        except NotArchive as place:
+            raise Wrong(f"{what}: the journal is no archive's at {place}") from None
+        entries = folder.archive.entries
+        expect(entries == self.entries[: len(entries)], f"{what}: the journal has other entries: {[it.hex() for it in entries]}")
+        expect(count <= len(entries) <= count + 1, f"{what}: {count} entries are acknowledged, and the journal has {len(entries)}")
+        folder.was_cut = True
+        difference = folder.difference(NEXT_SCRIPT)
+        expect(not difference, f"{what}: in the next run: {difference}")
+
+
+def nothing(_: Folder) -> None:
+    """A new folder."""
+
+
+def some(folder: Folder) -> None:
+    """An archive with texts and two plans, one of which stands in place of an earlier one."""
+    script = b"arrive 1 1 3\nred\narrive 2 3 4\nblue\ndelete 1 4\nplan red guarantee 1/1\nplan blue guarantee 1/1\nplan red guarantee 2/1\n"
+    difference = folder.difference(script)
+    expect(not difference, f"an archive to begin with: {difference}")
+
+
+def has_tracer() -> bool:
+    """Whether calls of the system can be made to fail by strace."""
+    return shutil.which("strace") is not None and subprocess.run(["strace", "-qq", "-o", os.devnull, "true"], capture_output=True).returncode == 0
