@@ -9,5 +9,6 @@ mod marks;
 mod pieces;
 mod plan_stops;
 mod replies;
+mod samples;
 mod statuses;
 mod stops;

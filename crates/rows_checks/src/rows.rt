@@ -10,6 +10,5 @@ mod journals;
 mod least;
 mod places;
 mod realistic;
-mod samples;
 mod sound;
 mod words;
