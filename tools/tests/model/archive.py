@@ -10,7 +10,7 @@ from struct import pack
 from typing import Iterator
 
 from .base import FOREVER, MOST_BYTES, MOST_DOCUMENTS, MOST_TEXT, MOST_VERSIONS, MOST_WORDS, PAGE, Broken, Differs, NoCommand, NotArchive, Refused
-from .journal import Place, Plan, read_entry, read_journal, spell_journal, sublist
+from .journal import Mark, Place, Plan, read_entry, read_journal, spell_journal, sublist
 from .plans import GUARANTEE, SINCE, UNIFORM, Line, Posting, stretches, test_segments, test_width, told
 from .script import Item, document_of, factor_of, items, query_behind, time_of
 from .words import Query, keys, one_key
@@ -50,7 +50,7 @@ class Archive:
         self.documents: dict[int, list[Version]] = {}
         self.plans: dict[str, Plan] = {}
         self.words: set[str] = set()
-        self.last = 0
+        self.last, self.is_marked = 0, False
         self._versions, self._length = 0, len(spell_journal([]))
 
     @classmethod
@@ -60,7 +60,9 @@ class Archive:
         for gate, entry in read_journal(journal):
             read = read_entry(entry, gate + 5)
             try:
-                if not isinstance(read, Plan):
+                if isinstance(read, Mark):
+                    archive._test_mark()
+                elif not isinstance(read, Plan):
                     archive._test_change(*read)
             except Refused:
                 raise NotArchive(gate) from None
@@ -74,6 +76,9 @@ class Archive:
         read = read_entry(entry)
         if isinstance(read, Plan):
             self.plans[read.key] = read
+            return
+        if isinstance(read, Mark):
+            self.is_marked = True
             return
         document, self.last, text = read
         counts = None if text is None else Counter(keys(text.decode()))
@@ -111,6 +116,8 @@ class Archive:
                 return self._change(document_of([document]), time_of([time]), item.text)
             case [b"delete", document, time]:
                 return self._change(document_of([document]), time_of([time]), None)
+            case [b"format", b"2"]:
+                return self._mark()
             case [b"plan", word, b"guarantee", factor]:
                 return self._plan(word.decode(), GUARANTEE, factor_of(factor), 0, choice)
             case [b"plan", word, b"space", factor, b"uniform"]:
@@ -137,10 +144,19 @@ class Archive:
         self._append(head + (text or b""))
         return [f"ok {len(self.entries)}"]
 
+    def _mark(self) -> list[str]:
+        self._test_mark()
+        self._append(Mark().entry())
+        return [f"ok {len(self.entries)}"]
+
     def _append(self, entry: bytes) -> None:
         if self._length + len(entry) + 5 > MOST_BYTES:
             raise Refused(f"10 Full journal {MOST_BYTES}")
         self._enter(entry)
+
+    def _test_mark(self) -> None:
+        if self.is_marked:
+            raise Refused("19 HasFormat")
 
     def _test_change(self, document: int, time: int, text: bytes | None) -> None:
         """The tests of an arrival, or of a deletion, in their order."""

@@ -27,6 +27,14 @@ class Place:
 
 
 @dataclass(frozen=True)
+class Mark:
+    """The mark of a journal that may have batches."""
+
+    def entry(self) -> bytes:
+        return pack(">BH", 5, 2)
+
+
+@dataclass(frozen=True)
 class Plan:
     """What an entry says of a stored plan."""
 
@@ -127,12 +135,17 @@ class _Fields:
             raise NotArchive(self.origin + self.at)
 
 
-def read_entry(entry: bytes, at: int = 0) -> tuple[int, int, bytes | None] | Plan:
-    """An entry: a document's version at a time, its deletion, which has no text, or a plan."""
+def read_entry(entry: bytes, at: int = 0) -> tuple[int, int, bytes | None] | Plan | Mark:
+    """An entry: a document's version at a time, its deletion, which has no text, a plan, or the mark."""
     fields = _Fields(entry, at)
-    tag = fields.number(1, 1, 4)
+    fields.hold(entry[:1] != b"\4")
+    tag = fields.number(1, 1, 6)
     if tag == 3:
         return _read_plan(fields)
+    if tag == 5:
+        fields.number(2, 2, 3)
+        fields.hold(fields.at == len(entry))
+        return Mark()
     document, time = fields.number(4), fields.number(8, 0, FOREVER)
     if tag == 2:
         fields.hold(fields.at == len(entry))
