@@ -1,6 +1,6 @@
 //! Plans that were worked out by hand.
 use super::given::FIVE;
-use crate::tests::given::{Alike, OVERLAP, expect_same, factor, listed, table_of};
+use crate::tests::given::{Alike, OVERLAP, expect_same, expect_same_in, factor, listed, table_of};
 use base_types::{DocId, Fraction, Posting, Span};
 use plans_guarantee::{Certificate, PlanError, WIDEST, check, plan};
 use plans_partitions::{Partition, Table};
@@ -99,8 +99,8 @@ fn expect_plan(rt: &impl Abort, alloc: Global, row: &Row) {
     let table = table_of(rt, alloc, &listed(rt, alloc, row.spans), row.horizon);
     let factor = factor(rt, row.factor.0, row.factor.1);
     let (partition, certificate) = plan(alloc, &table, factor).expect(rt, "a plan");
-    expect_same(rt, partition.cuts(), row.cuts);
-    expect_same(rt, certificate.pi(), row.pi);
+    expect_same_in(rt, (row.spans, row.factor), partition.cuts(), row.cuts);
+    expect_same_in(rt, (row.spans, row.factor), certificate.pi(), row.pi);
     expect_passes(rt, alloc, &table, factor, &partition, &certificate);
 }
 
