@@ -3,7 +3,7 @@ ghost use Rattle.std.specs.Prelude.{IsTrue, OnOk};
 ghost use Rattle.archive_hand.specs.States.{Reaches};
 ghost use Rattle.machine_mem.specs.Meaning.{disk_state};
 
-use crate::machines::expect_memory;
+use crate::machines::{expect_memory, load_on};
 use crate::{RowError, make_machine};
 use archive_changes::{arrive, delete};
 use archive_hand::{Archive, ChangeError};
@@ -120,7 +120,7 @@ fn load_and_change(
     machine: &mut MemMachine,
     changes: &[Change<'_>],
 ) -> Result<(), RowError> {
-    let mut archive = Archive::load(alloc, machine)?;
+    let mut archive = load_on(alloc, machine)?;
     expect_each(alloc, machine, &mut archive, changes)
 }
 

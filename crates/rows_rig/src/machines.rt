@@ -127,6 +127,16 @@ fn read_area(alloc: Global, machine: &mut MemMachine, area: Area) -> Result<Vec<
     Ok(bytes)
 }
 
+/// The archive of a machine's disk, which has to load.
+pub(crate) fn load_on(alloc: Global, machine: &mut MemMachine) -> Result<Archive, RowError>
+    ensures live { IfOk result (λ a. IsTrue a.live) }
+    ensures within { IfOk result (λ a. Reaches (disk_state machine.new).reach a) }
+{
+    let archive = Archive::load(alloc, machine)?;
+    expect_memory(machine)?;
+    Ok(archive)
+}
+
 /// The archive of a disk with this image, which has to load.
 pub fn load_image(alloc: Global, image: Image) -> Result<(Archive, MemMachine), RowError>
     ensures live { IfOk result (λ p. IsTrue p.0.live) }
@@ -136,8 +146,7 @@ pub fn load_image(alloc: Global, image: Image) -> Result<(Archive, MemMachine), 
         return Err(RowError::TooLong);
     }
     let mut machine = MemMachine::new(alloc, Vec::new(alloc), image, Vec::new(alloc))?;
-    let archive = Archive::load(alloc, &mut machine)?;
-    expect_memory(&machine)?;
+    let archive = load_on(alloc, &mut machine)?;
     Ok((archive, machine))
 }
 
