@@ -53,6 +53,7 @@ NO_COMMANDS = [
     b"begin red guarantee 2/1", b"format 2", b"format 02", b"top 3 10 red", b"best 3 10 red", b"approx red 1/2", b"rough 1/2 10 red",
     b"share 2/1 red blue", b"batch", b"batch 0", b"batch 1001", b"batch x", b"batch 1 2", b"batch -1", b"q" * 4_096,
 ]  # fmt: skip
+BROKEN = [b"arrive\n", b"arrive 1 2\n", b"arrive 1 x 3\nred\n", b"arrive 1 2 3 4\n", b"  arrive 1 1969-01-01 0\n\n", b"r" * 4_097]
 SKIPPED = [b"", b"   ", b"#", b"# arrive 1 2 3", b"#\xff\xfe", b"#" * 4_096, b" " * 4_096]
 
 
@@ -217,8 +218,7 @@ class Writer:
         if kind == 2:
             return script[:place] + script[place + 1 :]
         if kind == 3:
-            broken = [b"arrive\n", b"arrive 1 2\n", b"arrive 1 x 3\nred\n", b"arrive 1 2 3 4\n", b"  arrive 1 1969-01-01 0\n\n", b"r" * 4_097]
-            return script + self.chance.choice(broken)
+            return script + self.chance.choice(BROKEN)
         return script
 
     def wide_script(self) -> bytes:
@@ -229,7 +229,8 @@ class Writer:
             self.clock += 1
             text = word * self.chance.randint(1, 2)
             lines.append(b"arrive %d %d %d\n%b\n" % (self.chance.randrange(4), self.clock, len(text), text))
-        lines += [b"plan %b space %b uniform\n" % (word, self.factor()), b"plan %b guarantee 3/2\n" % word, b"find %d %b\n" % (self.clock - 9, word)]
+        lines.append(b"plan %b space %b uniform\n" % (word, self.factor()))
+        lines.append(b"find %d %b\nplan %b guarantee 3/2\nfind %d %b\n" % (self.clock - 9, word, word, self.clock - 7, word))
         return b"".join(lines)
 
 
@@ -320,10 +321,10 @@ def altered(chance: random.Random, journal: bytes) -> bytes:
 
 
 def journal_difference(folder: Folder, journal: bytes) -> str:
-    """How the program's load of a journal without plans differs from the model's."""
+    """How the program's load of another journal differs from the model's."""
     folder.journal.write_bytes(journal)
     try:
-        folder.archive = Archive.loaded(journal)
+        folder.archive = Archive.loaded(journal, folder.pages.stat().st_size)
     except NotArchive as place:
         outcome = folder.run(b"find 1 red\n")
         line = f"tt_archive: not an archive at byte {place} of the journal\n"
@@ -343,7 +344,7 @@ def scenario_difference(program: str, seed: int, number: int) -> tuple[str, list
             scripts.append(first + writer.script(chance.choice([3, 12, 30])))
             if difference := folder.difference(scripts[-1]):
                 return difference, scripts
-        if not folder.archive.plans and writer.is_one_in(2):
+        if writer.is_one_in(2):
             scripts.append(altered(chance, folder.journal.read_bytes()))
             return journal_difference(folder, scripts[-1]), scripts
     return "", scripts
@@ -361,8 +362,9 @@ def main() -> int:
         difference, scripts = scenario_difference(str(Path(words.program).resolve()), words.seed, number)
         runs += len(scripts)
         if difference:
+            again = f"--seed {words.seed} --first {number} --count 1"
             print(*scripts, sep="\n", end="\n\n")
-            print(f"scripts: {difference}\nscripts: in run {len(scripts)} of `--seed {words.seed} --first {number} --count 1`, whose scripts are above")
+            print(f"scripts: {difference}\nscripts: in run {len(scripts)} of `{again}`, whose scripts are above")
             return 1
     print(f"scripts: {words.count} scenarios of the seed {words.seed} with {runs} runs go as in the model")
     return 0

@@ -3,10 +3,12 @@ in memory.)"""
 
 from __future__ import annotations
 
-from model import HEADER, PAGE, Outcome
+import random
+
+from model import HEADER, PAGE, Archive, NotArchive, Outcome, read_journal, spell_journal
 from scripts import Folder
 
-from attacks.rig import ends, expect
+from attacks.rig import SCRIPT, ends, expect, some
 
 ONE_SCRIPT = b"arrive 7 10 5\nred a\n"
 FORMATS_SCRIPT = b"arrive 1 10 1\nv\narrive 2 20 1\nv\ndelete 2 30\ndelete 1 40\nplan v guarantee 1/1\n"
@@ -50,7 +52,8 @@ def damage_journals(program: str, audit: str) -> str:
             wanted = Outcome(b"", "", 0) if place is None else not_archive(place)
             expect(outcome == wanted, f"a journal with {what}, {journal.hex()}: {outcome}, and not {wanted}")
             left = HEADER + b"\0" if len(journal) <= 17 else journal
-            expect(folder.journal.read_bytes() == left, f"a journal with {what}, {journal.hex()}, is left as {folder.journal.read_bytes().hex()}")
+            is_left = folder.journal.read_bytes()
+            expect(is_left == left, f"a journal with {what}, {journal.hex()}, is left as {is_left.hex()}")
             audited = ends([audit], folder.path)
             told = Outcome(b"sound 0 0\n", "", 0) if place is None else Outcome(b"", wanted.line.replace("tt_archive", "tt_verify"), 3)
             expect(audited == told, f"an audit of a journal with {what}: {audited}, and not {told}")
@@ -99,3 +102,46 @@ def _damage_byte(folder: Folder, audit: str, pages: bytes, place: int) -> None:
     mended = b"plan 6 segments 3 space 4 full 2 horizon 40\nhit 1 1\nend 1 read 1\nsound 1 3\n"
     expect(outcome == Outcome(mended, "", 0), f"{what}, and the word is planned anew: {outcome}")
     folder.journal.write_bytes(kept)
+
+
+def alter_journals(program: str, audit: str, *, is_all: bool) -> str:
+    """A journal with plans of each kind, with another byte somewhere, or with entries that are missing, twice there or exchanged: the
+    program loads it where the model does, and otherwise refuses it at the same place."""
+    chance, refused, count = random.Random(7), 0, 5_000 if is_all else 600
+    with Folder(program) as folder:
+        some(folder)
+        expect(not (difference := folder.difference(SCRIPT)), difference)
+        journal, length = folder.journal.read_bytes(), folder.pages.stat().st_size
+        for _ in range(count):
+            altered = _altered(chance, journal)
+            folder.journal.write_bytes(altered)
+            try:
+                Archive.loaded(altered, length)
+                wanted = Outcome(b"", "", 0)
+            except NotArchive as place:
+                wanted = not_archive(int(str(place)))
+                refused += 1
+            outcome = folder.run(b"")
+            expect(outcome == wanted, f"the journal {altered.hex()} beside Pages of {length} bytes: {outcome}, and not {wanted}")
+            expect(folder.journal.read_bytes() == altered, f"the journal {altered.hex()} is changed by a load")
+    return f"{count} altered journals, {refused} of them refused"
+
+
+def _altered(chance: random.Random, journal: bytes) -> bytes:
+    if chance.randrange(3):
+        place = chance.randrange(len(journal))
+        byte = chance.choice([0, 1, 2, 3, 9, 0xA5, 0xFF, journal[place] ^ 1, journal[place] ^ 0x80, (journal[place] + 1) % 256])
+        return journal[:place] + bytes([byte]) + journal[place + 1 :]
+    entries = [entry for _, entry in read_journal(journal)]
+    one, other = chance.sample(range(len(entries)), 2)
+    kind = chance.randrange(4)
+    if kind == 0:
+        entries[one], entries[other] = entries[other], entries[one]
+    elif kind == 1:
+        entries.insert(one, entries[other])
+    elif kind == 2:
+        del entries[one]
+    else:
+        place = chance.randrange(len(entries[one]))
+        entries[one] = entries[one][:place] + entries[one][place + chance.randrange(2) :] + bytes(chance.randrange(2))
+    return spell_journal(entries)

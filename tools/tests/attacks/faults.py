@@ -17,13 +17,13 @@ CALL = re.compile(r"^\d+ +(\w+)\(", re.MULTILINE)
 READS = {"read", "pread64", "readv", "preadv", "preadv2"}
 WRITES = {"write", "pwrite64", "writev", "pwritev", "pwritev2"}
 SYNCS = {"fsync", "fdatasync", "sync_file_range"}
-#: What is made of the nth call: it fails, is to be made again, or moves no byte. The last of them makes all later ones fail too.
+#: What is made of a call: it fails, is to be made again, or moves no byte; with `+` all later calls of its name fail too.
 FAULTS = {
-    **{name: ["error=EIO:when={}", "error=EINTR:when={}", "retval=0:when={}", "error=EIO:when={}+"] for name in READS},
-    **{name: ["error=EIO:when={}", "error=ENOSPC:when={}", "error=EINTR:when={}", "retval=0:when={}", "error=ENOSPC:when={}+"] for name in WRITES},
-    **{name: ["error=EIO:when={}", "error=ENOSPC:when={}", "error=EINTR:when={}", "error=EIO:when={}+"] for name in SYNCS},
+    **{name: ["error=EIO", "error=EINTR", "retval=0", "error=EIO+"] for name in READS},
+    **{name: ["error=EIO", "error=ENOSPC", "error=EINTR", "retval=0", "error=ENOSPC+"] for name in WRITES},
+    **{name: ["error=EIO", "error=ENOSPC", "error=EINTR", "error=EIO+"] for name in SYNCS},
 }
-OTHERS = ["error=EIO:when={}", "error=ENOMEM:when={}"]
+OTHERS = ["error=EIO", "error=ENOMEM"]
 #: A program learns nothing of whether it could close a file.
 UNASKED = {"close"}
 
@@ -48,7 +48,8 @@ class Tracer:
         outcome = self.run(folder)
         expect(outcome == wanted, f"a traced run without faults: {outcome}")
         calls = Counter(CALL.findall((folder.path / "calls").read_text()))
-        tries = [(name, fault.format(nth)) for name in calls for fault in FAULTS.get(name, OTHERS) for nth in range(1, calls[name] + 1)]
+        faults = [(name, fault) for name in calls for fault in FAULTS.get(name, OTHERS)]
+        tries = [(name, _nth(fault, nth)) for name, fault in faults for nth in range(1, calls[name] + 1)]
         yield from (it for it in tries[::step] if it[0] not in UNASKED)
 
     def run_with(self, folder: Folder, name: str, fault: str) -> Outcome:
@@ -56,6 +57,11 @@ class Tracer:
         outcome = self.run(folder, "-e", f"inject={name}:{fault}")
         expect("INJECTED" in (folder.path / "calls").read_text(), f"{name} with {fault}: the call isn't made")
         return outcome
+
+
+def _nth(fault: str, nth: int) -> str:
+    """The fault of the nth call, as strace spells it."""
+    return f"{fault[:-1]}:when={nth}+" if fault.endswith("+") else f"{fault}:when={nth}"
 
 
 def fail_calls(program: str, audit: str, *, is_all: bool) -> str:
@@ -98,7 +104,7 @@ def fail_audits(program: str, audit: str) -> str:
     count = 0
     with Folder(program) as folder:
         some(folder)
-        files = [folder.journal.read_bytes(), folder.pages.read_bytes()]
+        files = _files(folder)
         whole = Outcome(b"sound 2 2\n", "", 0)
         for names, allowed in ((FILES, AUDIT_FAULT), (["shown"], Outcome(b"", "tt_verify: sink fault\n", 6))):
             tracer = Tracer(audit, names)
@@ -107,9 +113,13 @@ def fail_audits(program: str, audit: str) -> str:
                 no_locks = Outcome(b"", NO_LOCKS.line.replace("tt_archive", "tt_verify"), 4)
                 wanted = no_locks if name == "flock" else allowed
                 expect(outcome in (whole, wanted), f"an audit, and {name} with {fault}: {outcome}")
-                expect([folder.journal.read_bytes(), folder.pages.read_bytes()] == files, f"an audit changes a file at {name} with {fault}")
+                expect(_files(folder) == files, f"an audit changes a file at {name} with {fault}")
                 count += 1
     return f"{count} calls of audits that fail"
+
+
+def _files(folder: Folder) -> list[bytes]:
+    return [folder.journal.read_bytes(), folder.pages.read_bytes()]
 
 
 def die_at_calls(program: str, audit: str) -> str:

@@ -13,7 +13,8 @@ from typing import Callable
 from model import HEADER, Outcome
 from scripts import Folder
 
-from attacks.rig import AUDIT_FAULT, DISK_FAULT, NEXT_SCRIPT, SCRIPT, SINK_FAULT, SOURCE_FAULT, Whole, acknowledged, ends, expect, nothing, some
+from attacks.rig import AUDIT_FAULT, DISK_FAULT, NEXT_SCRIPT, SCRIPT, SINK_FAULT, SOURCE_FAULT
+from attacks.rig import Whole, acknowledged, ends, expect, nothing, some
 
 DONE = Outcome(b"", "", 0)
 #: The length of a file that is nearly nothing but a hole.
@@ -96,7 +97,7 @@ def sparse_files(program: str, audit: str) -> str:
         expect((told.status, told.line) == (0, ""), f"an audit of an archive with a hole of 3 GB behind it: {told}")
         for path in (folder.journal, folder.pages):
             taken = path.stat().st_blocks * 512
-            expect(path.stat().st_size == SPARSE and taken < 1 << 20, f"{path.name} has {path.stat().st_size} bytes now, and takes {taken}")
+            expect(path.stat().st_size == SPARSE and taken < 1 << 20, f"{path.name} takes {taken} of {path.stat().st_size} bytes now")
     return "2 files with a hole of 3 GB behind them"
 
 
@@ -123,7 +124,10 @@ def odd_streams(program: str, audit: str) -> str:
     os.close(root)
     os.close(writer)
     # A stream that is closed: no file of the archive may come to stand in its place.
-    closed = {"<&-": SOURCE_FAULT, ">&-": SINK_FAULT, "2>&-": DONE, "<&- >&-": SOURCE_FAULT, "<&- >&- 2>&-": Outcome(b"", "", 5), ">&- 2>&-": Outcome(b"", "", 6)}
+    closed = {
+        **{"<&-": SOURCE_FAULT, ">&-": SINK_FAULT, "2>&-": DONE, "<&- >&-": SOURCE_FAULT},
+        **{"<&- 2>&-": Outcome(b"", "", 5), ">&- 2>&-": Outcome(b"", "", 6), "<&- >&- 2>&-": Outcome(b"", "", 5)},
+    }
     for words, wanted in closed.items():
         with Folder(program) as folder:
             whole.fill(folder)
@@ -156,7 +160,8 @@ def _limit(size: int) -> None:
 
 
 #: A plan with so many sublists that it takes many pages, and then another.
-MANY_PAGES = b"".join(b"arrive %d %d 3\nred\n" % (at, at) for at in range(1, 41)) + b"plan red guarantee 1/1\nplan red guarantee 3/2\nverify\n"
+ARRIVALS = b"".join(b"arrive %d %d 3\nred\n" % (at, at) for at in range(1, 41))
+MANY_PAGES = ARRIVALS + b"plan red guarantee 1/1\nplan red guarantee 3/2\nverify\n"
 
 
 def _small_disks(program: str) -> str:

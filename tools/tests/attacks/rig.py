@@ -4,7 +4,6 @@ from __future__ import annotations
 
 import os
 import re
-import shutil
 import subprocess
 from dataclasses import dataclass
 from pathlib import Path
@@ -119,7 +118,8 @@ class Whole:
     def check_next(self, folder: Folder, count: int, what: str) -> None:
         """The journal has so many of the entries or one more, and the next run goes on as the model says."""
         try:
-            folder.archive = Archive.loaded(folder.journal.read_bytes() if folder.journal.exists() else b"")
+            journal, pages = (it.read_bytes() if it.exists() else b"" for it in (folder.journal, folder.pages))
+            folder.archive = Archive.loaded(journal, len(pages))
         except NotArchive as place:
             raise Wrong(f"{what}: the journal is no archive's at {place}") from None
         entries = folder.archive.entries
@@ -136,11 +136,14 @@ def nothing(_: Folder) -> None:
 
 def some(folder: Folder) -> None:
     """An archive with texts and two plans, one of which stands in place of an earlier one."""
-    script = b"arrive 1 1 3\nred\narrive 2 3 4\nblue\ndelete 1 4\nplan red guarantee 1/1\nplan blue guarantee 1/1\nplan red guarantee 2/1\n"
-    difference = folder.difference(script)
+    changes, plans = b"arrive 1 1 3\nred\narrive 2 3 4\nblue\ndelete 1 4\n", [b"red guarantee 1/1", b"blue guarantee 1/1", b"red guarantee 2/1"]
+    difference = folder.difference(changes + b"".join(b"plan %b\n" % it for it in plans))
     expect(not difference, f"an archive to begin with: {difference}")
 
 
 def has_tracer() -> bool:
     """Whether calls of the system can be made to fail by strace."""
-    return shutil.which("strace") is not None and subprocess.run(["strace", "-qq", "-o", os.devnull, "true"], capture_output=True).returncode == 0
+    try:
+        return subprocess.run(["strace", "-qq", "-o", os.devnull, "true"], capture_output=True).returncode == 0
+    except FileNotFoundError:
+        return False

@@ -9,7 +9,8 @@ from hashlib import sha256
 from struct import pack
 from typing import Iterator
 
-from .base import FOREVER, MOST_BYTES, MOST_DOCUMENTS, MOST_TEXT, MOST_VERSIONS, MOST_WORDS, PAGE, Broken, Differs, NoCommand, NotArchive, Refused
+from .base import FOREVER, MOST_BYTES, MOST_DOCUMENTS, MOST_TEXT, MOST_VERSIONS, MOST_WORDS, PAGE
+from .base import Broken, Differs, NoCommand, NotArchive, Refused
 from .journal import Mark, Place, Plan, read_entry, read_journal, spell_journal, sublist
 from .plans import GUARANTEE, SINCE, UNIFORM, Line, Posting, stretches, test_segments, test_width, told
 from .script import Item, document_of, factor_of, items, query_behind, time_of
@@ -54,20 +55,41 @@ class Archive:
         self._versions, self._length = 0, len(spell_journal([]))
 
     @classmethod
-    def loaded(cls, journal: bytes) -> Archive:
-        """The archive of a journal. (What a load tests of plans beyond their fields isn't tested here.)"""
-        archive = cls()
+    def loaded(cls, journal: bytes, length: int) -> Archive:
+        """The archive of a journal beside Pages of so many bytes."""
+        archive, gates = cls(), {}
         for gate, entry in read_journal(journal):
             read = read_entry(entry, gate + 5)
             try:
                 if isinstance(read, Mark):
                     archive._test_mark()
-                elif not isinstance(read, Plan):
+                elif isinstance(read, Plan):
+                    archive._test_plan(read)
+                    gates[read.key] = gate
+                else:
                     archive._test_change(*read)
             except Refused:
                 raise NotArchive(gate) from None
             archive._enter(entry)
+        taken: set[int] = set()
+        for key, gate in sorted(gates.items(), key=lambda it: it[1]):
+            for place in archive.plans[key].places:
+                if place.page * PAGE + place.size > length or not taken.isdisjoint(place.pages()):
+                    raise NotArchive(gate)
+                taken.update(place.pages())
         return archive
+
+    def _test_plan(self, plan: Plan) -> None:
+        """What a load tests of a plan beyond its fields."""
+        line = Line(self.postings(plan.key, 0, plan.horizon), plan.horizon)
+        cuts, space = {it.cut for it in plan.places}, sum(line.size(*it) for it in plan.segments())
+        is_allowed = line.full > 0 and plan.horizon <= self.last and plan.places[0].cut == line.boundaries[0]
+        if is_allowed and plan.kind == GUARANTEE:
+            is_allowed = cuts <= set(line.boundaries) and all(line.keeps(*it, plan.factor) for it in plan.segments())
+        elif is_allowed:
+            is_allowed = space <= plan.factor[0] * line.full // plan.factor[1]
+        if not is_allowed:
+            raise Refused("an entry that isn't legal")
 
     def _enter(self, entry: bytes) -> None:
         """Appends an entry that is allowed."""

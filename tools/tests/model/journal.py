@@ -6,7 +6,7 @@ from dataclasses import dataclass
 from struct import pack
 from typing import Iterable
 
-from .base import FOREVER, MOST_BOUNDARIES, MOST_TEXT, PAGE, NotArchive
+from .base import FOREVER, MOST_BOUNDARIES, MOST_BYTES, MOST_TEXT, PAGE, NotArchive
 from .plans import SINCE, Posting
 
 HEADER, OPEN, CLOSED = b"TIMETRAVELTEXT\0\1", 0xA5, b"\0"
@@ -157,13 +157,14 @@ def read_entry(entry: bytes, at: int = 0) -> tuple[int, int, bytes | None] | Pla
 def _read_plan(fields: _Fields) -> Plan:
     layout, kind = fields.number(1, 1, 3), fields.number(1, 1, 4)
     since = fields.number(8, 0, FOREVER) if kind == SINCE else 0
-    over = fields.number(4)
+    over = fields.number(4, 1)
     factor = over, fields.number(4, 1, over + 1)
     horizon = fields.number(8, 0, FOREVER)
     key = fields.text(fields.number(1, 1))
     places: list[Place] = []
     for _ in range(fields.number(4, 1, MOST_BOUNDARIES)):
         cut = fields.number(8, places[-1].cut + 1 if places else 0, horizon)
-        places.append(Place(cut, fields.number(4), fields.number(8), fields.take(32)))
+        page = fields.number(4, 0, MOST_BYTES // PAGE)
+        places.append(Place(cut, page, fields.number(8, 0, MOST_BYTES - page * PAGE + 1), fields.take(32)))
     fields.hold(fields.at == len(fields.entry))
     return Plan(layout, kind, since, factor, horizon, key, tuple(places))

@@ -1,0 +1,122 @@
+"""Power failures: the calls that the program makes on its files are recorded, and after each of them files are made as the disk model
+allows (docs/model.md, `MayLeave`). What was synced is there. Each byte that was written since may be any, and a file may end anywhere
+between where it ended then and where the furthest of these writes ends."""
+
+from __future__ import annotations
+
+import random
+import re
+from dataclasses import dataclass, field
+from typing import Iterator
+
+from model import OPEN
+from scripts import Folder
+
+from attacks.rig import SCRIPT, Whole, acknowledged, expect, nothing, some
+
+NAMES = [".", "archive.journal", "archive.pages"]
+CALLS = "openat,fcntl,pwrite64,ftruncate,fsync,fdatasync,write"
+RECORDER = ["strace", "-f", "-qq", "-xx", "-s", "1000000", "-o", "calls", "-e", f"trace={CALLS}"]
+CALL = re.compile(r"^\d+ +(\w+)\((.*)\) += (\d+)$", re.MULTILINE)
+
+
+@dataclass
+class Disk:
+    """A file as of its last sync, and what was written to it since. There may be no such file."""
+
+    stable: bytes | None
+    pending: list[tuple[int, bytes]] = field(default_factory=list)
+
+    def length(self) -> int:
+        return max([len(self.stable or b""), *(at + len(written) for at, written in self.pending)])
+
+    def sync(self) -> None:
+        self.stable = self.left("new", random.Random(0))
+        self.pending = []
+
+    def left(self, fill: str, chance: random.Random) -> bytes:
+        """What a power failure leaves. The bytes written since the sync are as they were, or as they were written (all, those of the last
+        write, or the first ones of each), or those of open gates, or any."""
+        whole = self.stable or b""
+        old = whole = whole + bytes(self.length() - len(whole))
+        for number, (at, written) in enumerate(self.pending, 1):
+            size, is_last = len(written), number == len(self.pending)
+            torn = chance.randrange(size + 1)
+            was = old[at : at + size]
+            left = {
+                "old": was,
+                "new": written,
+                "last": written if is_last else was,
+                "torn": written[:torn] + was[torn:],
+                "open": bytes([OPEN]) * size,
+                "any": chance.randbytes(size),
+            }
+            whole = whole[:at] + left[fill] + whole[at + size :]
+        shortest = len(self.stable or b"")
+        return whole if fill in ("new", "last") else whole[: chance.choice([shortest, len(whole), chance.randint(shortest, len(whole))])]
+
+
+def _bytes_of(spelled: str) -> bytes:
+    """The bytes of a text of strace, each of which is spelled in base 16."""
+    return bytes.fromhex(spelled.strip('"').replace("\\x", ""))
+
+
+@dataclass
+class Record:
+    """What the calls of a run have made of the files and of standard output."""
+
+    disks: dict[str, Disk]
+    shown: bytes = b""
+    named: dict[str, str] = field(default_factory=dict)  #: the name of the file of each handle
+
+    def moments(self, calls: str) -> Iterator[None]:
+        """Makes one call after another; stops behind each that makes, changes or syncs a file, and behind what is shown."""
+        for name, words, result in CALL.findall(calls):
+            handle, *rest = words.split(", ")
+            file = self.named.get(handle)
+            if name == "openat" and (path := _bytes_of(rest[0]).decode()) in NAMES:
+                self.named[result] = path
+            elif name == "fcntl" and file:
+                self.named[result] = file
+            elif name == "write" and handle == "1":
+                self.shown += _bytes_of(rest[0])[: int(result)]
+            elif name == "pwrite64" and file:
+                self.disks[file].pending.append((int(rest[2]), _bytes_of(rest[0])[: int(result)]))
+            elif name == "ftruncate" and file:
+                end = self.disks[file].length()
+                self.disks[file].pending.append((end, bytes(max(0, int(rest[0]) - end))))
+            elif name == "fdatasync" and file:
+                self.disks[file].sync()
+            elif name == "fsync" and file == ".":
+                for disk in self.disks.values():
+                    disk.stable = disk.stable or b""
+            else:
+                continue
+            yield
+
+
+def lose_writes(program: str, audit: str, *, is_all: bool) -> str:
+    """The power fails behind each call of a run."""
+    chance, moments, images = random.Random(7), 0, 0
+    fills = 4 * ["torn", "any"] + ["old", "new", "last", "open"] if is_all else ["old", "last", "torn", "open"]
+    for fill in (nothing, some):
+        whole = Whole.of(program, fill)
+        with Folder(program) as first:
+            fill(first)
+            disks = {path.name: Disk(path.read_bytes() if path.exists() else None) for path in (first.journal, first.pages)}
+            outcome = first.run_as([*RECORDER, program], SCRIPT)
+            expect(outcome.shown == whole.shown, f"a recorded run: {outcome}")
+            record, calls = Record(disks), (first.path / "calls").read_text()
+            for _ in record.moments(calls):
+                moments += 1
+                for kind in fills:
+                    with Folder(program) as folder:
+                        for name, disk in record.disks.items():
+                            if disk.stable is not None or chance.randrange(2):
+                                (folder.path / name).write_bytes(disk.left(kind, chance))
+                        what = f"a power failure behind {len(record.shown)} bytes of replies and {moments} calls, which leaves `{kind}`"
+                        whole.check_next(folder, max(whole.entries_before, acknowledged(record.shown)), what)
+                        images += 1
+            is_read = record.shown == whole.shown and record.disks["archive.journal"].left("new", chance) == first.journal.read_bytes()
+            expect(is_read and record.disks["archive.pages"].left("new", chance) == first.pages.read_bytes(), f"the calls aren't read: {calls}")
+    return f"{images} pairs of files that power failures behind {moments} calls may leave"
