@@ -17,7 +17,6 @@ import shutil
 import subprocess
 import sys
 import tempfile
-from dataclasses import dataclass, field
 from pathlib import Path
 
 from model import OPEN, PAGE, Archive, Choice, Differs, NotArchive, Outcome, read_journal, spell_journal
@@ -57,18 +56,15 @@ BROKEN = [b"arrive\n", b"arrive 1 2\n", b"arrive 1 x 3\nred\n", b"arrive 1 2 3 4
 SKIPPED = [b"", b"   ", b"#", b"# arrive 1 2 3", b"#\xff\xfe", b"#" * 4_096, b" " * 4_096]
 
 
-@dataclass
 class Writer:
     """Writes the scripts of one scenario."""
 
-    chance: random.Random
-    clock: int = 0
-    words: list[list[str]] = field(default_factory=list)
-
-    def __post_init__(self) -> None:
-        self.words = self.chance.sample(SPELLINGS, self.chance.randint(1, 4))
-        self.documents = self.chance.sample([0, 1, 2, 3, 70_000, (1 << 32) - 1], self.chance.randint(1, 4))
-        self.clock = self.chance.choice([0, 0, 5, 1_000, 86_395, (1 << 40) - 200])
+    def __init__(self, chance: random.Random) -> None:
+        self.chance = chance
+        self.words = chance.sample(SPELLINGS, chance.randint(1, 4))
+        self.documents = chance.sample([0, 1, 2, 3, 70_000, (1 << 32) - 1], chance.randint(1, 4))
+        #: The time of the last change that was written, as far as it moved on.
+        self.clock = chance.choice([0, 0, 5, 1_000, 86_395, (1 << 40) - 200])
 
     def is_one_in(self, count: int) -> bool:
         return self.chance.randrange(count) == 0
@@ -114,7 +110,7 @@ class Writer:
     def token(self) -> str:
         word = self.word()
         if self.is_one_in(12):
-            word = self.chance.choice(["'", "(?", "\t", "\u20ac"])[:1].replace("(", "!") + word + self.chance.choice(["", ".", "\r"])
+            word = self.chance.choice(["'", "!", "\t", "\u20ac"]) + word + self.chance.choice(["", ".", "\r"])
         if self.is_one_in(6):
             word += "^" + self.chance.choice(["1", "2", "5", "1000", "007", "0", "1001", "", "x", "-1", "2^3", "99999999999999999999"])
         return word
@@ -133,7 +129,7 @@ class Writer:
     def query(self) -> bytes:
         kind = self.chance.randrange(24)
         if kind == 0:
-            soup = [self.token(), "and", "or", "not", "(", ")", "-", "red-blue", "^", "^5", "()"]
+            soup = [self.token(), "and", "or", "not", "(", ")", "-", "red-blue", "^", "^5", "()", "and^2", "not.", "'or'", "red^^5", "red^5."]
             query = " ".join(self.chance.choice(soup) for _ in range(self.chance.randint(1, 7)))
         elif kind == 1:
             opened = self.chance.choice([63, 64, 65])
@@ -189,8 +185,8 @@ class Writer:
 
     def spaced(self, command: bytes) -> bytes:
         """With spaces around it and in it."""
-        line, _, text = command.partition(b"\n")
-        return b"  " + line.replace(b" ", b"  ", 2) + b"   " + (b"\n" + text if _ else b"")
+        line, end, text = command.partition(b"\n")
+        return b"  " + line.replace(b" ", b"  ", 2) + b"   " + end + text
 
     def first_script(self) -> bytes:
         """Some changes to begin with, so that there is something to ask for."""
