@@ -22,6 +22,17 @@ MOST_ENTRIES = 80
 
 def kill_programs(program: str, audit: str) -> str:
     """Kills the program at random moments of its work."""
+    processors = os.sched_getaffinity(0)
+    os.sched_setaffinity(0, {min(processors)})  # (both on one processor, so that the program works just while this one sleeps)
+    try:
+        told = _killed_often(program)
+    finally:
+        os.sched_setaffinity(0, processors)
+    return f"{told.total()} deaths at random moments, {told['amid']} of them amid changes"
+
+
+def _killed_often(program: str) -> Counter[str]:
+    """How often the program died before, amid or behind the changes of its script."""
     chance, told = random.Random(7), Counter[str]()
     while told.total() < DEATHS:
         with Folder(program) as folder:
@@ -30,7 +41,7 @@ def kill_programs(program: str, audit: str) -> str:
             folder.was_cut = True
             difference = folder.difference(_questions(folder))
             expect(not difference, f"a run after a death: {difference}")
-    return f"{told.total()} deaths at random moments, {told['amid']} of them amid changes"
+    return told
 
 
 def _questions(folder: Folder) -> bytes:
@@ -68,9 +79,7 @@ def _killed(folder: Folder, chance: random.Random) -> str:
         while is_loaded and b"sound " not in shown:
             shown += os.read(process.stdout.fileno(), 1 << 16)
         process.stdin.write(changes)
-        end = time.perf_counter() + chance.uniform(0, MOST_SECONDS)
-        while time.perf_counter() < end:  # (whoever sleeps wakes too late)
-            pass
+        time.sleep(MOST_SECONDS * chance.random())
         process.kill()
         rest, line = process.communicate()
     shown += rest

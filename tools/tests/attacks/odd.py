@@ -171,8 +171,8 @@ def _small_disks(program: str) -> str:
         disk = folder.path / "disk"
         disk.mkdir()
         for size in sizes:
-            mounted = subprocess.run(["mount", "-t", "tmpfs", "-o", f"size={size},mode=700", "tmpfs", disk], capture_output=True)
-            if mounted.returncode != 0:
+            mount = ["mount", "-t", "tmpfs", "-o", f"size={size},mode=700", "tmpfs", disk]
+            if shutil.which("mount") is None or subprocess.run(mount, capture_output=True).returncode != 0:
                 return "and no small disk, since none can be mounted here"
             try:
                 outcome = Folder(program, disk).run(MANY_PAGES)
