@@ -240,7 +240,7 @@ class Folder:
     def __init__(self, program: str, path: Path | None = None) -> None:
         self.program = program
         self.archive = Archive()
-        self.shown = b""  #: what the last run showed
+        self.outcome = Outcome(b"", "", 0)  #: how the last run ended whose difference was asked for
         self.was_cut = False  #: whether a run was cut short, and may have left bytes behind the last gate
         memory = "/dev/shm" if Path("/dev/shm").is_dir() else None
         self.path = path or Path(tempfile.mkdtemp(prefix="hostile-", dir=memory))
@@ -267,12 +267,11 @@ class Folder:
 
     def difference(self, script: bytes) -> str:
         """Runs a script; where the program differs from the model, how it does."""
-        outcome = self.run(script)
-        return self.difference_of(script, outcome, self.journal.read_bytes(), self.pages.read_bytes())
+        self.outcome = self.run(script)
+        return self.difference_of(script, self.outcome, self.journal.read_bytes(), self.pages.read_bytes())
 
     def difference_of(self, script: bytes, outcome: Outcome, journal: bytes, pages: bytes) -> str:
         """How a run of the script that came to this, and left these files, differs from the model's."""
-        self.shown = outcome.shown
         try:
             entries = [entry for _, entry in read_journal(journal)]
             wanted = self.archive.run(script, Choice(entries, outcome.shown))

@@ -2,6 +2,7 @@
 
 from __future__ import annotations
 
+import random
 import re
 from collections import Counter
 from dataclasses import dataclass
@@ -23,6 +24,8 @@ FAULTS = {
     **{name: ["error=EIO", "error=ENOSPC", "error=EINTR", "retval=0", "error=ENOSPC+"] for name in WRITES},
     **{name: ["error=EIO", "error=ENOSPC", "error=EINTR", "error=EIO+"] for name in SYNCS},
 }
+#: How many are tried of each random script.
+FAULTS_OF_SCRIPT = 4
 OTHERS = ["error=EIO", "error=ENOMEM"]
 #: A program learns nothing of whether it could close a file.
 UNASKED = {"close"}
@@ -35,26 +38,26 @@ class Tracer:
     program: str
     names: list[str]
 
-    def run(self, folder: Folder, *words: str) -> Outcome:
-        """Runs the script; the streams are files of the folder too."""
+    def run(self, folder: Folder, *words: str, script: bytes = SCRIPT) -> Outcome:
+        """Runs a script; the streams are files of the folder too."""
         watched = [it for name in self.names for path in (name, str(folder.path / name)) for it in ("-P", path)]
         with open(folder.path / "shown", "wb") as shown:
-            outcome = folder.run_as(["strace", "-f", "-qq", "-o", "calls", *watched, *words, self.program], SCRIPT, stdout=shown)
+            outcome = folder.run_as(["strace", "-f", "-qq", "-o", "calls", *watched, *words, self.program], script, stdout=shown)
         lines = [it for it in outcome.line.splitlines(keepends=True) if not it.startswith("strace: Requested path")]
         return Outcome((folder.path / "shown").read_bytes(), "".join(lines), outcome.status)
 
-    def faults(self, folder: Folder, wanted: Outcome, step: int) -> Iterator[tuple[str, str]]:
-        """Runs the script without faults. Gives each call that it made, and what may be made of it, or of each so many one."""
-        outcome = self.run(folder)
+    def faults(self, folder: Folder, wanted: Outcome, step: int, script: bytes = SCRIPT) -> Iterator[tuple[str, str]]:
+        """Runs a script without faults. Gives each call that it made, and what may be made of it, or of each so many one."""
+        outcome = self.run(folder, script=script)
         expect(outcome == wanted, f"a traced run without faults: {outcome}")
         calls = Counter(CALL.findall((folder.path / "calls").read_text()))
         faults = [(name, fault) for name in calls for fault in FAULTS.get(name, OTHERS)]
         tries = [(name, _nth(fault, nth)) for name, fault in faults for nth in range(1, calls[name] + 1)]
         yield from (it for it in tries[::step] if it[0] not in UNASKED)
 
-    def run_with(self, folder: Folder, name: str, fault: str) -> Outcome:
-        """Runs the script with what is made of a call."""
-        outcome = self.run(folder, "-e", f"inject={name}:{fault}")
+    def run_with(self, folder: Folder, name: str, fault: str, script: bytes = SCRIPT) -> Outcome:
+        """Runs a script with what is made of a call."""
+        outcome = self.run(folder, "-e", f"inject={name}:{fault}", script=script)
         expect("INJECTED" in (folder.path / "calls").read_text(), f"{name} with {fault}: the call isn't made")
         return outcome
 
@@ -79,6 +82,23 @@ def fail_calls(program: str, audit: str, *, is_all: bool) -> str:
                     whole.check_cut(folder, outcome, [NO_LOCKS if name == "flock" else DISK_FAULT], what)
                     told[name] += 1
     return f"{told.total()} calls on files that fail ({', '.join(f'{count} of {name}' for name, count in sorted(told.items()))})"
+
+
+def fail_random_calls(program: str, audit: str, *, is_all: bool) -> str:
+    """Some calls of random scripts on random archives fail."""
+    tracer, scenarios = Tracer(program, FILES), 200 if is_all else 15
+    for number in range(scenarios):
+        whole = Whole.random(program, number)
+        with Folder(program) as first:
+            whole.fill(first)
+            faults = list(tracer.faults(first, whole.outcome, 1, whole.script))
+        for name, fault in random.Random(number).sample(faults, FAULTS_OF_SCRIPT):
+            with Folder(program) as folder:
+                whole.fill(folder)
+                outcome = tracer.run_with(folder, name, fault, whole.script)
+                what = f"{name} with {fault} in the random script {number}, {whole.script!r}"
+                whole.check_cut(folder, outcome, [NO_LOCKS if name == "flock" else DISK_FAULT], what)
+    return f"{scenarios * FAULTS_OF_SCRIPT} calls that fail in {scenarios} random scripts"
 
 
 def fail_streams(program: str, audit: str) -> str:

@@ -12,10 +12,11 @@ from typing import Iterator
 from model import OPEN
 from scripts import Folder
 
-from attacks.rig import SCRIPT, Whole, acknowledged, expect, nothing, some
+from attacks.rig import Whole, acknowledged, expect, nothing, some
 
 NAMES = [".", "archive.journal", "archive.pages"]
 CALLS = "openat,fcntl,pwrite64,ftruncate,fsync,fdatasync,write"
+FILLS = ["old", "last", "torn", "open", "any"]
 RECORDER = ["strace", "-f", "-qq", "-xx", "-s", "1000000", "-o", "calls", "-e", f"trace={CALLS}"]
 CALL = re.compile(r"^\d+ +(\w+)\((.*)\) += (\d+)$", re.MULTILINE)
 
@@ -96,27 +97,31 @@ class Record:
 
 
 def lose_writes(program: str, audit: str, *, is_all: bool) -> str:
-    """The power fails behind each call of a run."""
+    """The power fails behind each call of some runs."""
     chance, moments, images = random.Random(7), 0, 0
-    fills = 4 * ["torn", "any"] + ["old", "new", "last", "open"] if is_all else ["old", "last", "torn", "open"]
-    for fill in (nothing, some):
-        whole = Whole.of(program, fill)
+    scripts = [Whole.of(program, nothing), Whole.of(program, some), *(Whole.random(program, number) for number in range(10 if is_all else 3))]
+    for whole in scripts:
         with Folder(program) as first:
-            fill(first)
-            disks = {path.name: Disk(path.read_bytes() if path.exists() else None) for path in (first.journal, first.pages)}
-            outcome = first.run_as([*RECORDER, program], SCRIPT)
-            expect(outcome.shown == whole.shown, f"a recorded run: {outcome}")
-            record, calls = Record(disks), (first.path / "calls").read_text()
-            for _ in record.moments(calls):
+            whole.fill(first)
+            files = [first.journal, first.pages]
+            record = Record({path.name: Disk(path.read_bytes() if path.exists() else None) for path in files})
+            outcome = first.run_as([*RECORDER, program], whole.script)
+            expect(outcome == whole.outcome, f"a recorded run: {outcome}, and not {whole.outcome}")
+            for _ in record.moments((first.path / "calls").read_text()):
                 moments += 1
-                for kind in fills:
-                    with Folder(program) as folder:
-                        for name, disk in record.disks.items():
-                            if disk.stable is not None or chance.randrange(2):
-                                (folder.path / name).write_bytes(disk.left(kind, chance))
-                        what = f"a power failure behind {len(record.shown)} bytes of replies and {moments} calls, which leaves `{kind}`"
-                        whole.check_next(folder, max(whole.entries_before, acknowledged(record.shown)), what)
-                        images += 1
-            is_read = record.shown == whole.shown and record.disks["archive.journal"].left("new", chance) == first.journal.read_bytes()
-            expect(is_read and record.disks["archive.pages"].left("new", chance) == first.pages.read_bytes(), f"the calls aren't read: {calls}")
-    return f"{images} pairs of files that power failures behind {moments} calls may leave"
+                for kind in 2 * FILLS if is_all else FILLS:
+                    _check_failure(program, whole, record, kind, chance)
+                    images += 1
+            is_read = [disk.left("new", chance) for disk in record.disks.values()] == [path.read_bytes() for path in files]
+            expect(record.shown == whole.shown and is_read, "the record has not what the files and the replies are")
+    return f"{images} pairs of files that power failures behind {moments} calls of {len(scripts)} scripts may leave"
+
+
+def _check_failure(program: str, whole: Whole, record: Record, kind: str, chance: random.Random) -> None:
+    with Folder(program) as folder:
+        for name, disk in record.disks.items():
+            if disk.stable is not None or chance.randrange(2):
+                (folder.path / name).write_bytes(disk.left(kind, chance))
+        count = max(whole.entries_before, acknowledged(record.shown))
+        what = f"a power failure of the script {whole.script!r}, behind the replies {record.shown!r}, which leaves `{kind}`"
+        whole.check_next(folder, count, what)

@@ -3,6 +3,7 @@
 from __future__ import annotations
 
 import os
+import random
 import re
 import subprocess
 from dataclasses import dataclass
@@ -10,7 +11,7 @@ from pathlib import Path
 from typing import Callable
 
 from model import Archive, NotArchive, Outcome
-from scripts import MOST_SECONDS, Folder
+from scripts import MOST_SECONDS, Folder, Writer
 
 #: Changes of each kind and questions. No text of it has a line that looks like a reply.
 SCRIPT = b"""arrive 1 10 5
@@ -93,7 +94,7 @@ class Whole:
 
     fill: Callable[[Folder], None]
     script: bytes
-    shown: bytes
+    outcome: Outcome
     entries: list[bytes]
     entries_before: int
 
@@ -104,15 +105,29 @@ class Whole:
             before = len(folder.archive.entries)
             difference = folder.difference(script)
             expect(not difference, f"a run without faults: {difference}")
-            return cls(fill, script, folder.shown, folder.archive.entries, before)
+            return cls(fill, script, folder.outcome, folder.archive.entries, before)
+
+    @classmethod
+    def random(cls, program: str, number: int) -> Whole:
+        """A run of a random script on an archive that another one made. It may be broken."""
+        writer = Writer(random.Random(f"whole {number}"))
+        before, script = writer.first_script() + writer.script(12), writer.script(20)
+
+        def fill(folder: Folder) -> None:
+            expect(not (difference := folder.difference(before)), f"the script {before!r}: {difference}")
+
+        return cls.of(program, fill, script)
+
+    @property
+    def shown(self) -> bytes:
+        return self.outcome.shown
 
     def check_cut(self, folder: Folder, outcome: Outcome, allowed: list[Outcome], what: str) -> None:
         """What holds after a run of the script that may have been cut short: what it showed is a front of the replies, its end is one
         of these, and the next run has each entry that was acknowledged, at most one more, and goes on as the model says."""
         expect(self.shown.startswith(outcome.shown), f"{what}: shows {outcome.shown!r}, and not a front of {self.shown!r}")
-        is_whole = outcome == Outcome(self.shown, "", 0)
-        ends_so = any((outcome.status, outcome.line) == (it.status, it.line) for it in allowed)
-        expect(is_whole or ends_so, f"{what}: ends with {outcome.status} and {outcome.line!r}, having shown {outcome.shown!r}")
+        ends_so = outcome == self.outcome or any((outcome.status, outcome.line) == (it.status, it.line) for it in allowed)
+        expect(ends_so, f"{what}: ends with {outcome.status} and {outcome.line!r}, having shown {outcome.shown!r}")
         self.check_next(folder, max(self.entries_before, acknowledged(outcome.shown)), what)
 
     def check_next(self, folder: Folder, count: int, what: str) -> None:
