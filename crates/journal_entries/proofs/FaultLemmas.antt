@@ -4,15 +4,16 @@ use Rattle.std.specs.Int.{w16, w32, w64, to_be_bytes}
 use Rattle.std.specs.List.{concat}
 use Rattle.std.proofs.Common.{sym, ap, subst, ◌∙◌, arith, inl, inr}
 use Rattle.std.proofs.lemmas.Bool.{cases_order}
-use Rattle.std.proofs.lemmas.List.{take_at, take-append-drop, length-append, length-drop}
-use Rattle.std.proofs.lemmas.Str.{IsUtf8-nil}
-use Rattle.base_types.specs.declared.ids.DocId.{DocId}
+use Rattle.std.proofs.lemmas.List.{take_at, drop_at, take-append-drop, length-append, length-drop}
 use Rattle.base_types.specs.declared.fraction.Fraction.{Fraction}
 use Rattle.base_types.specs.declared.time.Time.{Time}
 use Rattle.base_commands.specs.declared.command.Kind.{Kind}
 use Rattle.base_commands.specs.declared.command.Kind.TheVariants.{Guarantee}
 use Rattle.journal_entries.specs.declared.entry.Entry.{Entry}
-use Rattle.journal_entries.specs.declared.entry.Entry.TheVariants.{Arrive, Delete, Planned, Format}
+use Rattle.journal_entries.specs.declared.entry.Entry.TheVariants.{Arrive, Delete, Planned, Format, Batch}
+use Rattle.journal_entries.specs.declared.act.Act.{Act}
+use Rattle.journal_entries.specs.declared.act.Act.TheVariants as acts
+use Rattle.journal_entries.specs.Acts.{alone, IsAct}
 use Rattle.journal_entries.specs.declared.place.Layout.{Layout}
 use Rattle.journal_entries.specs.declared.place.Place.{Place}
 use Rattle.journal_entries.specs.declared.plan.PlanEntry.{PlanEntry}
@@ -23,41 +24,17 @@ use Rattle.journal_entries.specs.Faults.{fields, IsBegunPlan, IsBegun, Begins, I
 use Rattle.base_types.specs.Reading.{◌>>=◌}
 use Rattle.journal_entries.specs.FieldReading.{time_at, end_at}
 use Rattle.journal_entries.specs.PlanReading.{named_at, if_within, number_in, layout_at, kind_at, fraction_at, key_at, segments_at, plan_at}
-use Rattle.journal_entries.specs.Reading.{change_at, text_at, arrive_at, delete_at, format_at, entry_at}
+use Rattle.journal_entries.specs.Reading.{arrive_at, delete_at, batch_at, format_at, entry_at}
 use Rattle.base_types.proofs.Bytes.{IsBytes}
-use Rattle.base_types.proofs.Readings.{Within, Within-err}
-use Rattle.journal_entries.proofs.Steps.{err_is, no_fault, test_err}
-use Rattle.journal_entries.proofs.FieldLemmas.{text_within, end_within}
+use Rattle.base_types.proofs.Readings.{Within, Within-err, Within-then}
+use Rattle.journal_entries.proofs.Steps.{err_is, made_err}
+use Rattle.journal_entries.proofs.FieldLemmas.{end_within}
 use Rattle.journal_entries.proofs.SegmentLemmas.{increasing, rising, AreSegments, segments_field, segments_are}
-use Rattle.journal_entries.proofs.ChangeLemmas.{IsDoc, change_field}
+use Rattle.journal_entries.proofs.ActLemmas.{rest_fits}
+use Rattle.journal_entries.proofs.BatchStops.{end_fails, arrive_stops, delete_stops, arrive_passes, delete_passes, acts_stop, number_passes, acts_pass}
 use Rattle.journal_entries.proofs.Stops.{InFront, none, more_in_front, IsStopped, Of, Then, renamed, made, after_any, closed}
-use Rattle.journal_entries.proofs.FieldStops.{time_0, time_front, number_front, mark_front, layout_front, kind_front, fraction_fields, fraction_front, key_fields, word_1, key_front, AreBegun, OfSegments, no_segments, segments_stopped, change_fields, change_front}
+use Rattle.journal_entries.proofs.FieldStops.{time_0, time_front, number_front, mark_front, layout_front, kind_front, fraction_fields, fraction_front, key_fields, word_1, key_front, AreBegun, OfSegments, no_segments, segments_stopped}
 use Rattle.journal_entries.proofs.EntryLemmas.{entry_takes, entry_within, entry_left, entry_none}
-
--- ---- an arrival and a deletion, from behind the tag
-
-text_fails : (bytes : List ℕ) (left : ℕ) → text_at bytes ≡ Err left → left ≡ length bytes
-text_fails bytes left e = (test_err (List ℕ) _ bytes left (length bytes) e).1
-
-end_fails : (bytes : List ℕ) (left : ℕ) → end_at bytes ≡ Err left → left ≡ length bytes
-end_fails [] left e = absurd (no_fault (Unit {0}) tt left e)
-end_fails (b ∷ bytes) left e = let h = err_is (Unit {0}) (length bytes + 1) left e in omega (arith, h)
-
-abbrev OfChange : List (List ℕ) → Type 0
-OfChange = Of change_fields (λ c. IsDoc c.0)
-
-of_whole : (c : DocId × Time) → IsDoc c.0 → (fs : List (List ℕ)) × OfChange fs × (concat fs ≡ to_be_bytes w32 c.0.0 ++ to_be_bytes w64 c.1.seconds)
-of_whole c fit = (change_fields c, (c, fit, refl), change_front.same c)
-
-arrive_stopped : IsStopped Entry (λ _. 0) arrive_at OfChange
-unfolding arrive_at
-arrive_stopped = closed (DocId × Time) (List ℕ) Entry change_at (λ c. to_be_bytes w32 c.0.0 ++ to_be_bytes w64 c.1.seconds) (λ c. IsDoc c.0) OfChange text_at (λ c text. Arrive c.0 c.1 text)
-    change_field change_front.stopped of_whole text_within text_fails
-
-delete_stopped : IsStopped Entry (λ _. 0) delete_at OfChange
-unfolding delete_at
-delete_stopped = closed (DocId × Time) (Unit {0}) Entry change_at (λ c. to_be_bytes w32 c.0.0 ++ to_be_bytes w64 c.1.seconds) (λ c. IsDoc c.0) OfChange end_at (λ c end. Delete c.0 c.1)
-    change_field change_front.stopped of_whole end_within end_fails
 
 -- ---- the mark, from behind the tag
 
@@ -227,92 +204,113 @@ plan_stopped = renamed PlanEntry (λ _. 0) plan_at OfLayout OfPlan plan_of layou
 abbrev OfEntry : List (List ℕ) → Type 0
 OfEntry fs = (count : ℕ) × (e : Entry) × IsBegun count e × (fs ≡ fields count e)
 
-abbrev IsStopping : List ℕ → ℕ → Type 0
-IsStopping bytes left = (fs : List (List ℕ)) × OfEntry fs × InFront fs bytes left
+-- so many bytes are left behind a front with which an entry begins
+record IsStopping (bytes : List ℕ) (left : ℕ) : Type 0 where
+  front : List ℕ
+  rest : List ℕ
+  parts : bytes ≡ front ++ rest
+  left_is : length rest ≡ left
+  begins : Begins front rest
+
+by_fields : (fs : List (List ℕ)) (bytes : List ℕ) (left : ℕ) → OfEntry fs → InFront fs bytes left → IsStopping bytes left
+by_fields fs bytes left f front = record {
+  front = concat front.whole;
+  rest = front.rest;
+  parts = front.parts;
+  left_is = front.left_is;
+  begins = inl (record {
+    entry = f.1;
+    count = f.0;
+    begun = f.2;
+    whole = length front.whole;
+    are = ap concat (ap (take (length front.whole)) (sym f.3 ∙ sym front.split) ∙ take_at front.whole front.more (length front.whole) refl);
+  });
+}
 
 no_tag : (bytes : List ℕ) (left : ℕ) → left ≡ length bytes → IsStopping bytes left
-no_tag bytes left e = let fs = fields 0 (Delete (record { 0 = 0 }) time_0) in (fs, (0, Delete (record { 0 = 0 }) time_0, (omega arith, time_0.before_now), refl), none fs bytes left e)
+no_tag bytes left e = let fs = fields 0 (Delete (record { 0 = 0 }) time_0) in by_fields fs bytes left (0, Delete (record { 0 = 0 }) time_0, (omega arith, time_0.before_now), refl) (none fs bytes left e)
 
 behind_tag : (tag left : ℕ) (fs : List (List ℕ)) (bytes : List ℕ) → OfEntry ((tag ∷ []) ∷ fs) → InFront fs bytes left → IsStopping (tag ∷ bytes) left
-behind_tag tag left fs bytes f front = ((tag ∷ []) ∷ fs, f, more_in_front ((tag ∷ []) ∷ []) fs (tag ∷ bytes) bytes left refl front)
-
-tail_fits : (b : ℕ) (bytes : List ℕ) → IsBytes (b ∷ bytes) → IsBytes bytes
-tail_fits b bytes fits i = fits (suc i)
+behind_tag tag left fs bytes f front = by_fields ((tag ∷ []) ∷ fs) (tag ∷ bytes) left f (more_in_front ((tag ∷ []) ∷ []) fs (tag ∷ bytes) bytes left refl front)
 
 planned_stopped : IsStopped Entry (λ _. 0) (λ bytes. plan_at bytes >>= λ plan. Ok (Planned plan)) OfPlan
 planned_stopped = made PlanEntry Entry (λ _. 0) (λ _. 0) plan_at OfPlan (λ plan. Planned plan) (λ plan. omega arith) plan_stopped
+
+-- an act that is an entry of its own
+alone_stops : (tag : ℕ) (a : Act) (bytes : List ℕ) (left : ℕ) → IsAct a → InFront (fields 0 (alone a)) (tag ∷ bytes) left → IsStopping (tag ∷ bytes) left
+alone_stops tag (acts.Arrive doc at text) bytes left fit front = by_fields _ (tag ∷ bytes) left (0, Arrive doc at text, fit, refl) front
+alone_stops tag (acts.Delete doc at) bytes left fit front = by_fields _ (tag ∷ bytes) left (0, Delete doc at, fit, refl) front
+
+-- a batch: its number of acts isn't whole or not allowed, or it stops among the acts
+batch_stops : (bytes : List ℕ) (left : ℕ) → IsBytes bytes → batch_at bytes ≡ Err left → IsStopping (4 ∷ bytes) left
+batch_stops bytes left fits e = elim (acts_stop bytes left fits e) [
+  | inl here ↦ behind_tag 4 left (to_be_bytes w32 1 ∷ []) bytes (1, Batch [], (omega arith, omega arith), refl) (none (to_be_bytes w32 1 ∷ []) bytes left here)
+  | inr s ↦ record { front = s.front; rest = s.rest; parts = s.parts; left_is = s.left_is; begins = inr s.begins }
+]
 
 entry_stops : (bytes : List ℕ) (left : ℕ) → IsBytes bytes → entry_at bytes ≡ Err left → IsStopping bytes left
 unfolding entry_at
 entry_stops [] left fits e = no_tag [] left (sym (err_is Entry 0 left e))
 entry_stops (zero ∷ bytes) left fits e = let h = err_is Entry (length bytes + 1) left e in no_tag (0 ∷ bytes) left (omega (arith, h))
 entry_stops (suc zero ∷ bytes) left fits e =
-    let s = arrive_stopped.stops bytes left (tail_fits 1 bytes fits) e in
-    let c = s.1.0 in
-    behind_tag 1 left s.0 bytes (0, Arrive c.0 c.1 [], (s.1.1, c.1.before_now, omega arith, IsUtf8-nil), ap (λ (fs : List (List ℕ)). (1 ∷ []) ∷ fs) s.1.2) s.2
+    let s = arrive_stops bytes left (rest_fits 1 bytes fits) (made_err Act Entry (arrive_at bytes) alone left e) in alone_stops 1 s.0 bytes left s.1 s.2
 entry_stops (suc (suc zero) ∷ bytes) left fits e =
-    let s = delete_stopped.stops bytes left (tail_fits 2 bytes fits) e in
-    let c = s.1.0 in
-    behind_tag 2 left s.0 bytes (0, Delete c.0 c.1, (s.1.1, c.1.before_now), ap (λ (fs : List (List ℕ)). (2 ∷ []) ∷ fs) s.1.2) s.2
+    let s = delete_stops bytes left (rest_fits 2 bytes fits) (made_err Act Entry (delete_at bytes) alone left e) in alone_stops 2 s.0 bytes left s.1 s.2
 entry_stops (suc (suc (suc zero)) ∷ bytes) left fits e =
-    let s = planned_stopped.stops bytes left (tail_fits 3 bytes fits) e in
+    let s = planned_stopped.stops bytes left (rest_fits 3 bytes fits) e in
     behind_tag 3 left s.0 bytes (s.1.0, Planned s.1.1, s.1.2, ap (λ (fs : List (List ℕ)). (3 ∷ []) ∷ fs) s.1.3) s.2
-entry_stops (suc (suc (suc (suc zero))) ∷ bytes) left fits e = let h = err_is Entry (length bytes + 1) left e in no_tag (4 ∷ bytes) left (omega (arith, h))
+entry_stops (suc (suc (suc (suc zero))) ∷ bytes) left fits e = batch_stops bytes left (rest_fits 4 bytes fits) (made_err (List Act) Entry (batch_at bytes) (λ batch. Batch batch) left e)
 entry_stops (suc (suc (suc (suc (suc zero)))) ∷ bytes) left fits e =
-    let s = mark_stopped.stops bytes left (tail_fits 5 bytes fits) e in
+    let s = mark_stopped.stops bytes left (rest_fits 5 bytes fits) e in
     behind_tag 5 left s.0 bytes (0, Format, tt, ap (λ (fs : List (List ℕ)). (5 ∷ []) ∷ fs) s.1) s.2
 entry_stops (suc (suc (suc (suc (suc (suc tag))))) ∷ bytes) left fits e = let h = err_is Entry (length bytes + 1) left e in no_tag (suc (suc (suc (suc (suc (suc tag))))) ∷ bytes) left (omega (arith, h))
 
--- what is read behind the tag
-entry_passes_on : (count : ℕ) (e : Entry) (w : List ℕ) (whole more : List (List ℕ)) (after : List ℕ) → IsBegun count e → w ∷ (whole ++ more) ≡ fields count e → Within (λ _. 0) (length after) (entry_at (concat (w ∷ whole) ++ after))
-unfolding entry_at
-entry_passes_on count (Arrive doc at text) w whole more after begun is =
-    let tag : w ≡ 1 ∷ [] = cc in
-    let others : whole ++ more ≡ change_fields (doc, at) = cc in
-    subst (λ (xs : List ℕ). Within (λ _. 0) (length after) (entry_at ((xs ++ concat whole) ++ after))) (sym tag) (arrive_stopped.passes whole more after ((doc, at), begun.0, others))
-entry_passes_on count (Delete doc at) w whole more after begun is =
-    let tag : w ≡ 2 ∷ [] = cc in
-    let others : whole ++ more ≡ change_fields (doc, at) = cc in
-    subst (λ (xs : List ℕ). Within (λ _. 0) (length after) (entry_at ((xs ++ concat whole) ++ after))) (sym tag) (delete_stopped.passes whole more after ((doc, at), begun.0, others))
-entry_passes_on count (Planned plan) w whole more after begun is =
-    let tag : w ≡ 3 ∷ [] = cc in
-    let others : whole ++ more ≡ drop 1 (plan_fields count plan) = cc in
-    subst (λ (xs : List ℕ). Within (λ _. 0) (length after) (entry_at ((xs ++ concat whole) ++ after))) (sym tag) (planned_stopped.passes whole more after (count, plan, begun, others))
-entry_passes_on count Format w whole more after begun is =
-    let tag : w ≡ 5 ∷ [] = cc in
-    let others : whole ++ more ≡ (0 ∷ 2 ∷ []) ∷ [] = cc in
-    subst (λ (xs : List ℕ). Within (λ _. 0) (length after) (entry_at ((xs ++ concat whole) ++ after))) (sym tag) (mark_stopped.passes whole more after others)
+-- what is read behind whole fields
+made_entry : {A : Type 0} (make : A → Entry) (n : ℕ) (r : Result A ℕ) → Within (λ _. 0) n r → Within (λ (_ : Entry). 0) n (r >>= λ a. Ok (make a))
+made_entry make n r within = Within-then (λ _. 0) (λ _. 0) n r _ within (λ a le. omega arith)
 
-entry_passes : (whole more : List (List ℕ)) (after : List ℕ) → OfEntry (whole ++ more) → Within (λ _. 0) (length after) (entry_at (concat whole ++ after))
-entry_passes [] more after f = entry_within after
-entry_passes (w ∷ whole) more after f = entry_passes_on f.0 f.1 w whole more after f.2 f.3
+alone_passes : (a : Act) (whole : ℕ) (after : List ℕ) → IsAct a → Within (λ _. 0) (length after) (entry_at (concat (take whole (fields 0 (alone a))) ++ after))
+unfolding entry_at
+alone_passes a zero after fit = entry_within after
+alone_passes (acts.Arrive doc at text) (suc whole) after fit = made_entry alone (length after) _ (arrive_passes (doc, at) whole after fit.0)
+alone_passes (acts.Delete doc at) (suc whole) after fit = made_entry alone (length after) _ (delete_passes (doc, at) whole after fit.0)
+
+fields_pass : (count : ℕ) (e : Entry) (whole : ℕ) (after : List ℕ) → IsBegun count e → Within (λ _. 0) (length after) (entry_at (concat (take whole (fields count e)) ++ after))
+unfolding entry_at
+fields_pass count e zero after begun = entry_within after
+fields_pass count (Arrive doc at text) (suc whole) after begun = alone_passes (acts.Arrive doc at text) (suc whole) after begun
+fields_pass count (Delete doc at) (suc whole) after begun = alone_passes (acts.Delete doc at) (suc whole) after begun
+fields_pass count (Planned plan) (suc whole) after begun =
+    let fs = drop 1 (plan_fields count plan) in planned_stopped.passes (take whole fs) (drop whole fs) after (count, plan, begun, take-append-drop whole fs)
+fields_pass count Format (suc whole) after begun = mark_stopped.passes (take whole ((0 ∷ 2 ∷ []) ∷ [])) (drop whole ((0 ∷ 2 ∷ []) ∷ [])) after (take-append-drop whole ((0 ∷ 2 ∷ []) ∷ []))
+fields_pass count (Batch batch) (suc whole) after begun = made_entry (λ b. Batch b) (length after) _ (number_passes count whole after begun)
+
+entry_passes : (front after : List ℕ) → Begins front after → Within (λ _. 0) (length after) (entry_at (front ++ after))
+unfolding entry_at
+entry_passes front after (inl b) = subst (λ (xs : List ℕ). Within (λ _. 0) (length after) (entry_at (xs ++ after))) b.are (fields_pass b.count b.entry b.whole after b.begun)
+entry_passes front after (inr b) =
+    subst (λ (xs : List ℕ). Within (λ _. 0) (length after) (entry_at (xs ++ after))) b.are (made_entry (λ (batch : List Act). Batch batch) (length after) _ (acts_pass after b))
 
 -- ---- the fault
 
 -- bytes that begin an entry are read up to their end at least
-begun_is_read : (bytes : List ℕ) (left n : ℕ) → entry_at bytes ≡ Err left → n ≤ length bytes → Begins (take n bytes) → n ≤ length bytes - left
+begun_is_read : (bytes : List ℕ) (left n : ℕ) → entry_at bytes ≡ Err left → n ≤ length bytes → Begins (take n bytes) (drop n bytes) → n ≤ length bytes - left
 begun_is_read bytes left n e le b =
-    let fs = fields b.count b.entry in
-    let whole = take b.whole fs in
-    let behind_it = drop n bytes in
-    let same : concat whole ++ behind_it ≡ bytes = ap (λ (xs : List ℕ). xs ++ behind_it) b.are ∙ take-append-drop n bytes in
-    let passes = entry_passes whole (drop b.whole fs) behind_it (b.count, b.entry, b.begun, take-append-drop b.whole fs) in
-    let few = Within-err (λ (_ : Entry). 0) (length behind_it) (entry_at (concat whole ++ behind_it)) left passes (ap entry_at same ∙ e) in
-    let less = entry_left bytes left e in
-    omega (arith, few, less, length-drop n bytes)
+    let same = take-append-drop n bytes in
+    let few = Within-err (λ (_ : Entry). 0) (length (drop n bytes)) (entry_at (take n bytes ++ drop n bytes)) left (entry_passes (take n bytes) (drop n bytes) b) (ap entry_at same ∙ e) in
+    omega (arith, few, entry_left bytes left e, length-drop n bytes)
 
 -- where reading stops is the fault
 pub fault_at : (bytes : List ℕ) (left : ℕ) → IsBytes bytes → entry_at bytes ≡ Err left → IsFault bytes (length bytes - left)
 fault_at bytes left fits e =
     let s = entry_stops bytes left fits e in
-    let f = s.2 in
     let at = length bytes - left in
-    let long : length bytes ≡ length (concat f.whole) + left = ap length f.parts ∙ omega (arith, length-append (concat f.whole) f.rest, f.left_is) in
-    let taken : take (length f.whole) (fields s.1.0 s.1.1) ≡ f.whole = ap (take (length f.whole)) (sym s.1.3 ∙ sym f.split) ∙ take_at f.whole f.more (length f.whole) refl in
-    let in_front : take at bytes ≡ concat f.whole = ap (take at) f.parts ∙ take_at (concat f.whole) f.rest at (omega (arith, long)) in
+    let place : at ≡ length s.front = omega (arith, ap length s.parts, length-append s.front s.rest, s.left_is) in
+    let front : take at bytes ≡ s.front = ap (take at) s.parts ∙ take_at s.front s.rest at (sym place) in
+    let rest : drop at bytes ≡ s.rest = ap (drop at) s.parts ∙ drop_at s.front s.rest at (sym place) in
     record {
       within = omega arith;
-      begins = record { entry = s.1.1; count = s.1.0; begun = s.1.2; whole = length f.whole; are = ap concat taken ∙ sym in_front };
+      begins = rw (front, rest) s.begins;
       longest = λ n lt le b. (let no = begun_is_read bytes left n e le b in omega arith);
       misspelled = λ x ranges. entry_none bytes left x e ranges;
     }

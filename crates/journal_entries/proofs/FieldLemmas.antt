@@ -9,7 +9,7 @@ use Rattle.std.proofs.lemmas.Str.{IsUtf8-from_is_utf8, is_utf8-from_IsUtf8}
 use Rattle.base_types.specs.declared.time.Time.{Time}
 use Rattle.base_types.specs.Times.{time_by, time_of}
 use Rattle.base_types.proofs.TimeLemmas.{time_of-seconds}
-use Rattle.journal_entries.specs.Spelling.{most_text}
+use Rattle.journal_entries.specs.Acts.{most_text}
 use Rattle.journal_entries.specs.FieldReading.{number_at, time_at, end_at}
 use Rattle.journal_entries.specs.Reading.{text_at}
 use Rattle.base_types.proofs.Bytes.{IsBytes, IsBytes-take, IsBytes-drop, IsWide}

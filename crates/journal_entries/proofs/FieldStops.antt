@@ -35,7 +35,7 @@ use Rattle.journal_entries.proofs.Stops.{InFront, none, IsStopped, behind, Of, T
 
 -- ---- numbers
 
-number_fails : (w : Width) (bytes : List ℕ) (left : ℕ) → number_at w bytes ≡ Err left → left ≡ length bytes
+pub number_fails : (w : Width) (bytes : List ℕ) (left : ℕ) → number_at w bytes ≡ Err left → left ≡ length bytes
 number_fails w bytes left e = (guard_err (ℕ × List ℕ) (nat_lt (length bytes) (byte_len w)) (from_be_bytes w (take (byte_len w) bytes), drop (byte_len w) bytes) left (length bytes) e).1
 
 named_fails : (A : Type 0) (w : Width) (value : ℕ → Option A) (bytes : List ℕ) (left : ℕ) → named_at w value bytes ≡ Err left → left ≡ length bytes
@@ -57,6 +57,10 @@ time_front = one_field Time time_at (λ t. to_be_bytes w64 t.seconds) (λ _. Uni
 pub number_front : (least most : ℕ) → least ≤ most → most < 2 ^ 32 → HasFields ℕ (number_in least most) (λ n. to_be_bytes w32 n) (λ n. to_be_bytes w32 n ∷ []) (λ n. (least ≤ n) × (n ≤ most))
 unfolding number_in
 number_front least most le lt = one_field ℕ (number_in least most) (λ n. to_be_bytes w32 n) (λ n. (least ≤ n) × (n ≤ most)) least (omega arith, le) (number_field least most lt) (named_fails ℕ w32 (if_within least most))
+
+pub bounded_fails : (least most : ℕ) (bytes : List ℕ) (left : ℕ) → number_in least most bytes ≡ Err left → left ≡ length bytes
+unfolding number_in
+bounded_fails least most = named_fails ℕ w32 (if_within least most)
 
 pub mark_front : HasFields ℕ (named_at w16 (if_within 2 2)) (λ n. to_be_bytes w16 n) (λ n. to_be_bytes w16 n ∷ []) (λ n. (2 ≤ n) × (n ≤ 2))
 mark_front = one_field ℕ (named_at w16 (if_within 2 2)) (λ n. to_be_bytes w16 n) (λ n. (2 ≤ n) × (n ≤ 2)) 2 (omega arith, omega arith) mark_field (named_fails ℕ w16 (if_within 2 2))

@@ -8,5 +8,8 @@ mod ChangeLemmas
 mod Stops
 mod FieldStops
 mod PlanLemmas
+mod ActLemmas
+mod BatchLemmas
+mod BatchStops
 pub mod EntryLemmas
 pub mod FaultLemmas

@@ -3,6 +3,7 @@ pub mod PlanSpelling
 pub mod PlanBytes
 pub mod Numbers
 pub mod PlanReading
+pub mod Acts
 pub mod Spelling
 pub mod Reading
 pub mod Fields

@@ -1,5 +1,6 @@
 //! The entries of an archive's history.
-use crate::plan::PlanEntry;
+use crate::act::Act;
+use crate::plan::{Listed, PlanEntry};
 use crate::text::VersionText;
 use base_types::{DocId, Time};
 
@@ -26,4 +27,6 @@ pub enum Entry {
     Planned(PlanEntry),
     /// The mark of a journal that may have batches.
     Format,
+    /// Changes of documents that come all at once, from 1 to `MOST_ACTS` of them.
+    Batch(Listed<Act>),
 }

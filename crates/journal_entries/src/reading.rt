@@ -2,35 +2,19 @@
 ghost use Rattle.std.specs.Prelude.{◌≡◌, ℕ, IfOk};
 ghost use Rattle.journal_entries.specs.declared.entry.Entry.{Entry};
 ghost use Rattle.journal_entries.specs.Spelling.{spelling, IsEntry};
-ghost use Rattle.journal_entries.specs.Reading.{arrive_at, delete_at, format_at, entry_at};
+ghost use Rattle.journal_entries.specs.Reading.{format_at, entry_at};
 ghost use Rattle.journal_entries.specs.Fields.{Gives};
 ghost use Rattle.journal_entries.specs.Decoding.{IsReadAs};
 ghost use Rattle.journal_entries.specs.Faults.{IsFault};
 
+use crate::act::alone;
+use crate::batch_reading::{arrive_at, batch_at, delete_at};
 use crate::entry::Entry;
 use crate::error::CodecError;
-use crate::fields::{FieldError, change_at, end_at, fault, text_at, u16_at};
+use crate::fields::{FieldError, end_at, fault, u16_at};
 use crate::plan_reading::plan_at;
-use crate::tags::{ARRIVE, DELETE, FORMAT, FORMAT_NUMBER, PLANNED};
+use crate::tags::{ARRIVE, BATCH, DELETE, FORMAT, FORMAT_NUMBER, PLANNED};
 use std::alloc::Global;
-
-#[tactic(auto, unfolding(crate::specs::Reading::arrive_at))]
-fn arrive_at(alloc: Global, bytes: &[u8]) -> Result<Entry, FieldError>
-    ensures { Gives (λ e. e) result (arrive_at bytes.now) }
-{
-    let (doc, at, rest) = change_at(bytes)?;
-    let text = text_at(alloc, rest)?;
-    Ok(Entry::Arrive { doc, at, text })
-}
-
-#[tactic(auto, unfolding(crate::specs::Reading::delete_at))]
-fn delete_at(bytes: &[u8]) -> Result<Entry, FieldError>
-    ensures { Gives (λ e. e) result (delete_at bytes.now) }
-{
-    let (doc, at, rest) = change_at(bytes)?;
-    end_at(rest)?;
-    Ok(Entry::Delete { doc, at })
-}
 
 #[tactic(auto, unfolding(crate::specs::Reading::format_at))]
 fn format_at(bytes: &[u8]) -> Result<Entry, FieldError>
@@ -49,9 +33,10 @@ fn entry_at(alloc: Global, bytes: &[u8]) -> Result<Entry, FieldError>
     ensures { Gives (λ e. e) result (entry_at bytes.now) }
 {
     match bytes {
-        [ARRIVE, rest @ ..] => arrive_at(alloc, rest),
-        [DELETE, rest @ ..] => delete_at(rest),
+        [ARRIVE, rest @ ..] => Ok(alone(arrive_at(alloc, rest)?)),
+        [DELETE, rest @ ..] => Ok(alone(delete_at(rest)?)),
         [PLANNED, rest @ ..] => Ok(Entry::Planned(plan_at(alloc, rest)?)),
+        [BATCH, rest @ ..] => Ok(Entry::Batch(batch_at(alloc, rest)?)),
         [FORMAT, rest @ ..] => format_at(rest),
         _ => Err(fault(bytes)),
     }

@@ -15,6 +15,19 @@ pub const CHANGE_BYTES: usize = 13;
 /// one byte, the word, how many segments there are in 4 bytes, and the segments.
 pub const PLANNED: u8 = 3;
 
+/// The tag of a batch. Behind it stands how many acts there are in 4 bytes, and each act behind its
+/// length in 4 bytes, spelled as an entry of its own.
+pub const BATCH: u8 = 4;
+
+/// The bytes of a batch in front of its acts.
+pub const BATCH_FRONT_BYTES: usize = 5;
+
+/// The most acts of a batch.
+pub const MOST_ACTS: u32 = 1_000;
+
+/// The least bytes of an act with its length.
+pub const LEAST_ACT_BYTES: usize = 17;
+
 /// The tag of the mark of a journal that may have batches. Behind it stands `FORMAT_NUMBER` in 2 bytes.
 pub const FORMAT: u8 = 5;
 
