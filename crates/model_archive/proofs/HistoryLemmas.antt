@@ -10,7 +10,7 @@ use Rattle.journal_gates.proofs.SpellingLemmas.{length-header}
 use Rattle.journal_entries.specs.Spelling.{spelling}
 use Rattle.journal_entries.specs.declared.entry.Entry.{Entry}
 use Rattle.journal_entries.proofs.EntryLemmas.{one_entry}
-use Rattle.journal_entries.specs.declared.entry.Entry.TheVariants.{Arrive, Delete, Planned, Format}
+use Rattle.journal_entries.specs.declared.entry.Entry.TheVariants.{Arrive, Delete, Planned, Format, Batch}
 use Rattle.plans_kinds.specs.Plans.{Asks, IsGoodPlan, IsFitFor}
 use Rattle.plans_kinds.proofs.GoodLemmas.{good_is_fit}
 use Rattle.model_archive.specs.Histories.{History, changes, acts, end_of, is_mark, is_marked}
@@ -99,6 +99,7 @@ pub entry_loads : (before : History) (e : Entry) → IsLegalEntry before e → I
 entry_loads before (Arrive doc at text) legal = record { ranges = legal.ranges; allowed = legal.allowed; planned = tt }
 entry_loads before (Delete doc at) legal = record { ranges = legal.ranges; allowed = legal.allowed; planned = tt }
 entry_loads before Format legal = record { ranges = legal.ranges; allowed = legal.allowed; planned = tt }
+entry_loads before (Batch batch) legal = record { ranges = legal.ranges; allowed = legal.allowed; planned = tt }
 entry_loads before (Planned plan) legal = record {
   ranges = legal.ranges;
   allowed = legal.allowed;

@@ -14,7 +14,7 @@ use Rattle.pages_area.specs.Wrote as wrote
 use Rattle.pages_area.proofs.StayLemmas.{AreApartFrom, taken_right, apart_parts, apart_left}
 use Rattle.journal_entries.specs.declared.place.Place.{Place}
 use Rattle.journal_entries.specs.declared.entry.Entry.{Entry}
-use Rattle.journal_entries.specs.declared.entry.Entry.TheVariants.{Arrive, Delete, Planned, Format}
+use Rattle.journal_entries.specs.declared.entry.Entry.TheVariants.{Arrive, Delete, Planned, Format, Batch}
 use Rattle.journal_entries.specs.declared.plan.PlanEntry.{PlanEntry}
 use Rattle.pages_sublists.specs.Preparing.{IsFor, extents, pieces_of}
 use Rattle.pages_sublists.specs.Segments.{seconds, next_cut, EachSegment, HoldsSublist}
@@ -56,6 +56,7 @@ same_live h (Arrive doc at text) change = live_plans-push h (Arrive doc at text)
 same_live h (Delete doc at) change = live_plans-push h (Delete doc at)
 same_live h (Planned plan) change = absurd change
 same_live h Format change = live_plans-push h Format
+same_live h (Batch batch) change = live_plans-push h (Batch batch)
 
 pub held_push : (Good : Asks) (h : History) (e : Entry) (pages : List ℕ) → IsNoPlan e → EachMayCome Good [] h → entry_refusal h e ≡ None → HoldsPlans h pages → HoldsPlans (h ++ e ∷ []) pages
 held_push Good h e pages change each allowed held = held_later Good h (h ++ e ∷ []) pages (later_push h e allowed) (same_live h e change) each held

@@ -1,5 +1,6 @@
 pub mod RunLemmas
 pub mod HistoryLemmas
+pub mod BatchLemmas
 pub mod LiveLemmas
 pub mod HoldLemmas
 pub mod StandsLemmas
@@ -11,6 +12,7 @@ pub mod Sorting
 pub mod OrderLemmas
 pub mod VerifyLemmas
 pub mod CertifyingLemmas
+mod BatchOutcomes
 pub mod OutcomeLemmas
 mod BoundLemmas
 pub mod ChosenLemmas

@@ -17,27 +17,22 @@ use Rattle.lists_versions.proofs.Valid.{held_at-later}
 use Rattle.lists_versions.proofs.Latest.{last_time-push}
 use Rattle.text_words.specs.Terms.{occurrences}
 use Rattle.journal_entries.specs.Spelling.{spelling}
+use Rattle.journal_entries.specs.Acts.{alone}
+use Rattle.journal_entries.specs.declared.act.Act.{Act}
+use Rattle.journal_entries.specs.declared.act.Act.TheVariants as batched
 use Rattle.journal_entries.specs.declared.entry.Entry.{Entry}
-use Rattle.journal_entries.specs.declared.entry.Entry.TheVariants.{Arrive, Delete, Planned, Format}
+use Rattle.journal_entries.specs.declared.entry.Entry.TheVariants.{Arrive, Delete, Planned, Format, Batch}
 use Rattle.journal_entries.specs.declared.plan.PlanEntry.{PlanEntry}
 use Rattle.plans_kinds.specs.Plans.{Asks}
 use Rattle.model_archive.specs.Refusals.{refusal_of}
 use Rattle.model_archive.specs.declared.stored.StoredPlan.{StoredPlan}
-use Rattle.model_archive.specs.Histories.{History, changes, entry_refusal, full_words, end_of}
+use Rattle.model_archive.specs.Histories.{History, changes, singles, entry_refusal, full_words, end_of}
 use Rattle.model_archive.specs.Answers.{frequency_at}
 use Rattle.model_archive.specs.Planning.{last_second, IsListUpTo}
 use Rattle.model_archive.specs.Legal.{MayBePlanned, MayCome, EachMayCome}
 use Rattle.model_archive.specs.Plans.{is_another, with_entry, live_after, live_plans}
 use Rattle.model_archive.proofs.HistoryLemmas.{changes-push}
-
--- the first cause of some tests is none: so is that of the first
-none_first : {W : Type 0} (o : Option W) (tests : List (Option W)) → first_of (o ∷ tests) ≡ None → o ≡ None
-none_first None tests none = refl
-none_first (Some why) tests none = absurd cc
-
-none_mapped : {V W : Type 0} (f : V → W) (o : Option V) → option_map f o ≡ None → o ≡ None
-none_mapped f None none = refl
-none_mapped f (Some why) none = absurd cc
+use Rattle.model_archive.proofs.BatchLemmas.{none_found, none_mapped, EachAllowed, batch_changes, batch_allowed}
 
 -- a time that isn't back lies at or behind the last one
 not_back : (at : Time) (last : Option Time) → option_and_then (λ (l : Time). when (nat_lt at.seconds l.seconds) (TimeBack l)) last ≡ None
@@ -51,12 +46,12 @@ not_back at (Some l) none = go (nat_lt at.seconds l.seconds) refl none
 
 arrival_later : (h : History) (doc : DocId) (at : Time) (text : List ℕ) → entry_refusal h (Arrive doc at text) ≡ None → last_second h ≤ at.seconds
 arrival_later h doc at text allowed =
-    let all = none_mapped refusal_of (arrive_refusal doc at (changes h)) (none_first _ (full_words h (Arrive doc at text) ∷ []) allowed) in
-    not_back at (last_time (changes h)) (none_first (time_back at (changes h)) _ all)
+    let all = none_mapped refusal_of (arrive_refusal doc at (changes h)) (none_found _ (full_words h (Arrive doc at text) ∷ []) allowed).0 in
+    not_back at (last_time (changes h)) (none_found (time_back at (changes h)) _ all).0
 
 deletion_later : (h : History) (doc : DocId) (at : Time) → entry_refusal h (Delete doc at) ≡ None → last_second h ≤ at.seconds
 deletion_later h doc at allowed =
-    not_back at (last_time (changes h)) (none_first (time_back at (changes h)) _ (none_mapped refusal_of (delete_refusal doc at (changes h)) allowed))
+    not_back at (last_time (changes h)) (none_found (time_back at (changes h)) _ (none_mapped refusal_of (delete_refusal doc at (changes h)) allowed)).0
 
 -- a change at or behind the last time leaves the texts before it, and the last time doesn't fall
 pub record IsLater (h next : History) : Type 0 where
@@ -71,22 +66,39 @@ with_change h next c is later = record {
       (ap (held_at doc t) is ∙ held_at-later doc t (changes h) c (omega (arith, early, later)));
 }
 
-without_change : (h next : History) → changes next ≡ changes h → IsLater h next
-without_change h next is = record {
-  last = omega (arith, ap (λ (cs : List (Change (List ℕ))). unwrap_or (option_map (λ (t : Time). t.seconds) (last_time cs)) 0) is);
-  same = λ word doc t early. ap (λ (cs : List (Change (List ℕ))). unwrap_or (option_map (occurrences word) (held_at doc t cs)) 0) is;
+-- it is so of any history with the same changes
+later_by : (h next other : History) → changes other ≡ changes next → IsLater h next → IsLater h other
+later_by h next other is later = record {
+  last = omega (arith, later.last, ap (λ (cs : List (Change (List ℕ))). unwrap_or (option_map (λ (t : Time). t.seconds) (last_time cs)) 0) is);
+  same = λ word doc t early. ap (λ (cs : List (Change (List ℕ))). unwrap_or (option_map (occurrences word) (held_at doc t cs)) 0) is ∙ later.same word doc t early;
 }
 
-pub later_push : (h : History) (e : Entry) → entry_refusal h e ≡ None → IsLater h (h ++ e ∷ [])
-later_push h (Arrive doc at text) allowed = with_change h (h ++ Arrive doc at text ∷ []) (record { doc = doc; at = at; held = Some text }) (changes-push h (Arrive doc at text)) (arrival_later h doc at text allowed)
-later_push h (Delete doc at) allowed = with_change h (h ++ Delete doc at ∷ []) (record { doc = doc; at = at; held = None }) (changes-push h (Delete doc at)) (deletion_later h doc at allowed)
-later_push h (Planned plan) allowed = without_change h (h ++ Planned plan ∷ []) (changes-push h (Planned plan) ∙ append-nil (changes h))
-later_push h Format allowed = without_change h (h ++ Format ∷ []) (changes-push h Format ∙ append-nil (changes h))
+later_none : (h : History) → IsLater h h
+later_none h = record { last = omega arith; same = λ word doc t early. refl }
 
--- nothing refuses these entries behind those before them
-abbrev pub EachAllowed : History → List Entry → Type 0
-EachAllowed before [] = Unit {0}
-EachAllowed before (e ∷ entries) = (entry_refusal before e ≡ None) × EachAllowed (before ++ e ∷ []) entries
+later_then : (h mid next : History) → IsLater h mid → IsLater mid next → IsLater h next
+later_then h mid next one more = record {
+  last = omega (arith, one.last, more.last);
+  same = λ word doc t early. more.same word doc t (omega (arith, early, one.last)) ∙ one.same word doc t early;
+}
+
+-- an act as an entry of its own
+later_act : (h : History) (act : Act) → entry_refusal h (alone act) ≡ None → IsLater h (h ++ alone act ∷ [])
+later_act h (batched.Arrive doc at text) allowed = with_change h (h ++ Arrive doc at text ∷ []) (record { doc = doc; at = at; held = Some text }) (changes-push h (Arrive doc at text)) (arrival_later h doc at text allowed)
+later_act h (batched.Delete doc at) allowed = with_change h (h ++ Delete doc at ∷ []) (record { doc = doc; at = at; held = None }) (changes-push h (Delete doc at)) (deletion_later h doc at allowed)
+
+later_acts : (h : History) (batch : List Act) → EachAllowed h (singles batch) → IsLater h (h ++ singles batch)
+later_acts h [] allowed = subst (IsLater h) (sym (append-nil h)) (later_none h)
+later_acts h (act ∷ batch) allowed =
+    subst (IsLater h) (append_assoc h (alone act ∷ []) (singles batch))
+    (later_then h (h ++ alone act ∷ []) ((h ++ alone act ∷ []) ++ singles batch) (later_act h act allowed.0) (later_acts (h ++ alone act ∷ []) batch allowed.1))
+
+pub later_push : (h : History) (e : Entry) → entry_refusal h e ≡ None → IsLater h (h ++ e ∷ [])
+later_push h (Arrive doc at text) allowed = later_act h (batched.Arrive doc at text) allowed
+later_push h (Delete doc at) allowed = later_act h (batched.Delete doc at) allowed
+later_push h (Planned plan) allowed = later_by h h (h ++ Planned plan ∷ []) (changes-push h (Planned plan) ∙ append-nil (changes h)) (later_none h)
+later_push h Format allowed = later_by h h (h ++ Format ∷ []) (changes-push h Format ∙ append-nil (changes h)) (later_none h)
+later_push h (Batch batch) allowed = later_by h (h ++ singles batch) (h ++ Batch batch ∷ []) (batch_changes h batch) (later_acts h batch (batch_allowed h batch allowed))
 
 pub allowed_push : (before h : History) (e : Entry) → EachAllowed before h → entry_refusal (before ++ h) e ≡ None → EachAllowed before (h ++ e ∷ [])
 allowed_push before [] e allowed next = (let P : History → Type 0 = λ g. entry_refusal g e ≡ None in subst P (append-nil before) next, tt)
@@ -100,14 +112,10 @@ come_allowed Good before [] each = tt
 come_allowed Good before (e ∷ entries) each = (each.0.allowed, come_allowed Good (before ++ e ∷ []) entries each.1)
 
 pub later_all : (before entries : History) → EachAllowed before entries → IsLater before (before ++ entries)
-later_all before [] allowed = subst (IsLater before) (sym (append-nil before)) (record { last = omega arith; same = λ word doc t early. refl })
+later_all before [] allowed = subst (IsLater before) (sym (append-nil before)) (later_none before)
 later_all before (e ∷ entries) allowed =
-    let one = later_push before e allowed.0 in
-    let more = later_all (before ++ e ∷ []) entries allowed.1 in
-    subst (IsLater before) (append_assoc before (e ∷ []) entries) (record {
-      last = omega (arith, one.last, more.last);
-      same = λ word doc t early. more.same word doc t (omega (arith, early, one.last)) ∙ one.same word doc t early;
-    })
+    subst (IsLater before) (append_assoc before (e ∷ []) entries)
+    (later_then before (before ++ e ∷ []) ((before ++ e ∷ []) ++ entries) (later_push before e allowed.0) (later_all (before ++ e ∷ []) entries allowed.1))
 
 pub list_later : (h next : History) (word : List ℕ) (horizon : ℕ) (list : List Posting) → IsLater h next → horizon ≤ last_second h → IsListUpTo h word horizon list → IsListUpTo next word horizon list
 list_later h next word horizon list later past is = record {
@@ -164,6 +172,7 @@ module _ (Good : Asks) where
   with_one before gate live (Arrive doc at text) may all = with_same before live (Arrive doc at text) may all
   with_one before gate live (Delete doc at) may all = with_same before live (Delete doc at) may all
   with_one before gate live Format may all = with_same before live Format may all
+  with_one before gate live (Batch batch) may all = with_same before live (Batch batch) may all
   with_one before gate live (Planned plan) may all =
       let next = before ++ Planned plan ∷ [] in
       let later = later_push before (Planned plan) may.allowed in

@@ -1,10 +1,10 @@
 -- Each item has one outcome: from a legal history to a legal one.
-use Rattle.std.proofs.Common.{subst, sym, ◌≡◌, ℕ, ◌+◌, ◌<◌, ◌≤◌, ◌^◌, Bool, true, false, not, nat_lt, List, [], ◌∷◌, ◌++◌, length, All, Contains, Option, Some, None, IsSome, is_some, Result, Ok, Err, refl, ap, arith, unwrap_or, ◌∙◌, inl, inr}
+use Rattle.std.proofs.Common.{subst, sym, ◌≡◌, ℕ, ◌+◌, ◌<◌, ◌≤◌, ◌^◌, not, nat_lt, List, [], ◌∷◌, ◌++◌, length, map, All, Contains, Option, Some, None, IsSome, is_some, Result, Ok, Err, refl, ap, arith, unwrap_or, ◌∙◌, inl, inr}
 use Rattle.std.specs.Str.{is_utf8}
 use Rattle.std.specs.Option.{option_map}
 use Rattle.std.proofs.lemmas.Bool.{cases_lt, ltb-false}
 use Rattle.std.proofs.lemmas.Str.{IsUtf8-from_is_utf8}
-use Rattle.std.proofs.lemmas.List.Elements.{All-nil, All-cons, All-head, All-tail, All-weaker}
+use Rattle.std.proofs.lemmas.List.Elements.{All-nil, All-cons, All-head, All-tail, All-append, All-weaker}
 use Rattle.base_types.specs.declared.fraction.Fraction.{Fraction}
 use Rattle.base_types.specs.declared.ids.DocId.{DocId}
 use Rattle.base_types.specs.declared.time.Span.{Span}
@@ -20,10 +20,11 @@ use Rattle.lists_versions.specs.declared.change.Change.{Change}
 use Rattle.lists_versions.specs.Changes.{valid_at}
 use Rattle.lists_versions.specs.Changes as changed
 use Rattle.lists_versions.proofs.Alive.{alive-has}
-use Rattle.lists_versions.specs.Tests.{first_of, when}
 use Rattle.lists_versions.proofs.Holding.{held_has}
 use Rattle.lists_versions.proofs.Latest.{changes_of-none}
-use Rattle.journal_entries.specs.Spelling.{most_text}
+use Rattle.journal_entries.specs.Acts.{IsAct, most_text}
+use Rattle.journal_entries.specs.declared.act.Act.{Act}
+use Rattle.journal_entries.specs.declared.act.Act.TheVariants as batched
 use Rattle.journal_entries.specs.declared.entry.Entry.{Entry}
 use Rattle.journal_entries.specs.declared.entry.Entry.TheVariants as entries
 use Rattle.query_lang.specs.Grammar.{Query}
@@ -41,7 +42,7 @@ use Rattle.lists_postings.proofs.Longest as longest
 use Rattle.model_archive.specs.declared.refusal.Refusal.{Refusal}
 use Rattle.model_archive.specs.declared.refusal.Refusal.TheVariants as refusals
 use Rattle.plans_kinds.specs.Plans.{IsFitFor}
-use Rattle.model_archive.specs.Histories.{History, changes, text_at, entry_refusal}
+use Rattle.model_archive.specs.Histories.{History, change_by, changes, text_at, entry_refusal}
 use Rattle.model_archive.specs.Legal.{EachMayCome, IsLegal, IsLegalEntry, IsLoadable}
 use Rattle.journal_entries.specs.declared.plan.PlanEntry.{PlanEntry}
 use Rattle.pages_sublists.specs.Segments.{seconds}
@@ -61,6 +62,8 @@ use Rattle.model_archive.specs.Steps.{Reply, Accepted, Refused, Found, Spanned, 
 use Rattle.model_archive.specs.Runs.{Outcome, IsRun}
 use Rattle.model_archive.specs.Worlds.{World, world_of}
 use Rattle.model_archive.proofs.HistoryLemmas.{legal-push, loadable-push, entry_loads}
+use Rattle.model_archive.proofs.BatchLemmas.{none_found}
+use Rattle.model_archive.proofs.BatchOutcomes.{no_cause, is_true, each_batch, batches_keep, one_batch}
 use Rattle.model_archive.proofs.StoringLemmas.{plan_outcome, plans_keep}
 use Rattle.model_archive.proofs.ToldLemmas.{plans_alike}
 use Rattle.model_archive.proofs.CertifyingLemmas.{each_certifies, one_certifies}
@@ -68,19 +71,6 @@ use Rattle.model_archive.proofs.VerifyLemmas.{each_verdict, one_verdict}
 use Rattle.model_archive.proofs.PlanningLemmas.{each_phrase, one_phrase, last_in_time}
 use Rattle.model_archive.specs.Choices.{IsChoice, IsStoring, SameButSegments, SamePlanned}
 use Rattle.model_archive.specs.Planning.{last_second, IsListUpTo}
-
--- where no test finds a cause, the first finds none, nor do the others
-none_found : {W : Type 0} (o : Option W) (tests : List (Option W)) → first_of (o ∷ tests) ≡ None → (o ≡ None) × (first_of tests ≡ None)
-none_found None tests none = (refl, none)
-none_found (Some why) tests none = absurd cc
-
-no_cause : {W : Type 0} (test : Bool) (why : W) → when test why ≡ None → test ≡ false
-no_cause true why none = absurd cc
-no_cause false why none = refl
-
-is_true : (b : Bool) → not b ≡ false → b ≡ true
-is_true true is = refl
-is_true false is = absurd cc
 
 -- an entry that isn't refused is legal
 pub arrival_legal : (h : History) (doc : DocId) (at : Time) (text : List ℕ) → doc.0 < 2 ^ 32 → arrival_refusal h doc at text ≡ None → IsLegalEntry h (entries.Arrive doc at text)
@@ -117,6 +107,14 @@ record IsModest (word : List ℕ) (c : Change (List ℕ)) : Type 0 where
   numbered : c.doc.0 < 2 ^ 32
   few : unwrap_or (option_map (occurrences word) c.held) 0 < 2 ^ 32
 
+act_modest : (word : List ℕ) (act : Act) → IsAct act → IsModest word (change_by act)
+act_modest word (batched.Arrive doc at text) ranges = record { numbered = ranges.0; few = omega (arith, occurrences-le word text, ranges.2) }
+act_modest word (batched.Delete doc at) ranges = record { numbered = ranges.0; few = omega arith }
+
+acts_modest : (word : List ℕ) (batch : List Act) → All IsAct batch → All (IsModest word) (map change_by batch)
+acts_modest word [] each = All-nil (IsModest word)
+acts_modest word (act ∷ batch) each = All-cons (IsModest word) (change_by act) (map change_by batch) (act_modest word act (All-head IsAct act batch each)) (acts_modest word batch (All-tail IsAct act batch each))
+
 modest : (word : List ℕ) (before h : History) → EachMayCome IsFitFor before h → All (IsModest word) (changes h)
 modest word before [] legal = All-nil (IsModest word)
 modest word before (entries.Arrive doc at text ∷ h) legal =
@@ -126,6 +124,8 @@ modest word before (entries.Delete doc at ∷ h) legal =
     All-cons (IsModest word) _ (changes h) (record { numbered = legal.0.ranges.0; few = omega arith }) (modest word (before ++ entries.Delete doc at ∷ []) h legal.1)
 modest word before (entries.Planned plan ∷ h) legal = modest word (before ++ entries.Planned plan ∷ []) h legal.1
 modest word before (entries.Format ∷ h) legal = modest word (before ++ entries.Format ∷ []) h legal.1
+modest word before (entries.Batch batch ∷ h) legal =
+    All-append (IsModest word) (map change_by batch) (changes h) (acts_modest word batch legal.0.ranges.each) (modest word (before ++ entries.Batch batch ∷ []) h legal.1)
 
 frequency_few : (h : History) (word : List ℕ) (doc : DocId) (t : ℕ) → IsLoadable h → frequency_at h word doc t < 2 ^ 32
 frequency_few h word doc t legal =
@@ -238,6 +238,7 @@ each_command h (commands.Arrive doc at (texts.Bytes text)) loads = adds_outcome 
 each_command h (commands.Arrive doc at (texts.TooLong bytes)) loads = declines_outcome h (refusals.TooLong most_text)
 each_command h (commands.Delete doc at) loads = adds_outcome h (entries.Delete doc at) (deletion_refusal h doc at)
 each_command h commands.Format loads = adds_outcome h entries.Format (mark_refusal h)
+each_command h (commands.Batch batch) loads = each_batch h batch
 each_command h (commands.Find at expr) loads =
     let found = each_finds h at expr loads in
     (record { reply = found.0; next = h }, (refl, found.1))
@@ -280,6 +281,7 @@ command_keeps P push h (commands.Arrive doc at (texts.Bytes text)) reply next is
 command_keeps P push h (commands.Arrive doc at (texts.TooLong bytes)) reply next is range step = stays P h next is step.0
 command_keeps P push h (commands.Delete doc at) reply next is range step = adds_keep P push h (entries.Delete doc at) (deletion_refusal h doc at) reply next is (deletion_legal h doc at range) step
 command_keeps P push h commands.Format reply next is range step = adds_keep P push h entries.Format (mark_refusal h) reply next is (mark_legal h) step
+command_keeps P push h (commands.Batch batch) reply next is range step = batches_keep P push h batch reply next is range step
 command_keeps P push h (commands.Find at expr) reply next is range step = stays P h next is step.0
 command_keeps P push h (commands.Show doc at) reply next is range step = stays P h next is step.0
 command_keeps P push h (commands.Plan word kind fraction) reply next is range step = plans_keep P push h word kind fraction reply next is step
@@ -396,6 +398,7 @@ one_command h (commands.Arrive doc at (texts.Bytes text)) reply other next then 
 one_command h (commands.Arrive doc at (texts.TooLong bytes)) reply other next then free a b = one_declines h (refusals.TooLong most_text) reply other next then a b
 one_command h (commands.Delete doc at) reply other next then free a b = one_adds h (entries.Delete doc at) (deletion_refusal h doc at) reply other next then a b
 one_command h commands.Format reply other next then free a b = one_adds h entries.Format (mark_refusal h) reply other next then a b
+one_command h (commands.Batch batch) reply other next then free a b = one_batch h batch reply other next then a b
 one_command h (commands.Find at expr) reply other next then free a b = one_stays h reply other next then a.0 b.0 (one_finds h at expr reply other a.1 b.1)
 one_command h (commands.Show doc at) reply other next then free a b = one_stays h reply other next then a.0 b.0 (a.1 ∙ sym b.1)
 one_command h (commands.Plan word kind fraction) reply other next then free a b = absurd (free tt)

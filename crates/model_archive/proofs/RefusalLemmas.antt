@@ -13,7 +13,7 @@ use Rattle.lists_versions.specs.declared.refusal.VersionRefusal.{VersionRefusal}
 use Rattle.lists_versions.specs.Refusals.{arrive_refusal}
 use Rattle.std.specs.Option.{option_map}
 use Rattle.model_archive.specs.Refusals.{refusal_of}
-use Rattle.journal_entries.specs.Spelling.{most_text}
+use Rattle.journal_entries.specs.Acts.{most_text}
 use Rattle.journal_entries.specs.declared.entry.Entry.{Entry}
 use Rattle.journal_entries.specs.declared.entry.Entry.TheVariants.{Arrive}
 use Rattle.model_archive.specs.declared.refusal.Refusal.{Refusal}

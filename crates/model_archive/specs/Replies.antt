@@ -13,7 +13,7 @@ use Rattle.model_archive.specs.declared.refusal.Refusal.TheVariants as refusals
 use Rattle.model_archive.specs.declared.verdict.Verdict.{Verdict}
 use Rattle.model_archive.specs.declared.verdict.Verdict.TheVariants.{Sound, Differs, NotLeast, BadText}
 use Rattle.model_archive.specs.Refusals.{number_of}
-use Rattle.model_archive.specs.Steps.{Reply, Accepted, Refused, Found, Spanned, Version, Proposed, Planned, Verified, Summary}
+use Rattle.model_archive.specs.Steps.{Reply, Accepted, Refused, RefusedIn, Found, Spanned, Version, Proposed, Planned, Verified, Summary}
 
 -- the name of a limit in a reply
 abbrev pub which_text : Which → List ℕ
@@ -49,6 +49,10 @@ detail_text refusals.NotDisjunction = codes "NotDisjunction"
 -- the line of a refusal: its number, its name, and its detail
 abbrev pub refusal_text : Refusal → List ℕ
 refusal_text why = codes "no " ++ decimal (number_of why) ++ codes " " ++ detail_text why ++ 10 ∷ []
+
+-- the line of a refusal for an item of a batch: the same, and the item's number
+abbrev pub refusal_in_text : Refusal → ℕ → List ℕ
+refusal_in_text why index = codes "no " ++ decimal (number_of why) ++ codes " " ++ detail_text why ++ codes " in " ++ decimal index ++ 10 ∷ []
 
 -- the line of a row: the document and the score
 abbrev pub row_text : Row → List ℕ
@@ -124,6 +128,7 @@ verdict_text (BadText doc at) = codes "badtext " ++ decimal doc.0 ++ codes " " +
 abbrev pub reply_text : Reply → List ℕ
 reply_text (Accepted count) = codes "ok " ++ decimal count ++ 10 ∷ []
 reply_text (Refused why) = refusal_text why
+reply_text (RefusedIn why index) = refusal_in_text why index
 reply_text (Found rows read) = answer_text rows read
 reply_text (Spanned rows read) = spans_text rows read
 reply_text (Version text) = version_text text

@@ -1,6 +1,7 @@
 -- The machine that an archive is: what an item of the input does to a history, and what is replied.
-use Rattle.std.specs.Prelude.{◌≡◌, ◌⊎◌, ℕ, ◌+◌, nat_lt, not, if◌then◌else◌, List, [], ◌∷◌, ◌++◌, length, Option, Some, None, Result, Ok, Err}
-use Rattle.std.specs.List.{AllZip}
+use Rattle.std.specs.Prelude.{◌≡◌, ◌⊎◌, ℕ, ◌+◌, nat_lt, not, if◌then◌else◌, List, [], ◌∷◌, ◌++◌, length, Option, Some, None, unwrap_or, Result, Ok, Err}
+use Rattle.std.specs.List.{AllZip, flat_map}
+use Rattle.std.specs.Option.{option_map}
 use Rattle.std.specs.Str.{is_utf8}
 use Rattle.std.specs.Str.Lossy.{utf8_valid_len}
 use Rattle.base_types.specs.Limits.{limit_of}
@@ -10,6 +11,11 @@ use Rattle.base_types.specs.declared.posting.Posting.{Posting}
 use Rattle.base_types.specs.declared.time.Span.{Span}
 use Rattle.base_types.specs.declared.time.Time.{Time}
 use Rattle.base_types.specs.declared.which.Which.TheVariants.{Journal, Pages}
+use Rattle.base_commands.specs.Batches.{texts_bytes}
+use Rattle.base_commands.specs.declared.batch.BatchItem.{BatchItem}
+use Rattle.base_commands.specs.declared.batch.BatchItem.TheVariants as members
+use Rattle.base_commands.specs.declared.batch.BatchItems.{BatchItems}
+use Rattle.base_commands.specs.declared.batch.BatchItems.TheVariants.{Items, TooLong}
 use Rattle.base_commands.specs.declared.command.Command.{Command}
 use Rattle.base_commands.specs.declared.command.Command.TheVariants as commands
 use Rattle.base_commands.specs.declared.command.Item.{Item}
@@ -19,7 +25,9 @@ use Rattle.base_commands.specs.declared.command.Kind.TheVariants.{Guarantee}
 use Rattle.base_commands.specs.declared.text.Text.{Text}
 use Rattle.base_commands.specs.declared.text.Text.TheVariants as texts
 use Rattle.lists_versions.specs.Tests.{first_of, when}
-use Rattle.journal_entries.specs.Spelling.{most_text}
+use Rattle.journal_entries.specs.Acts.{most_text}
+use Rattle.journal_entries.specs.declared.act.Act.{Act}
+use Rattle.journal_entries.specs.declared.act.Act.TheVariants as batched
 use Rattle.journal_entries.specs.declared.entry.Entry.{Entry}
 use Rattle.journal_entries.specs.declared.entry.Entry.TheVariants as entries
 use Rattle.journal_entries.specs.declared.place.Layout.TheVariants.{Blocks}
@@ -41,7 +49,7 @@ use Rattle.query_eval.specs.declared.spans.SpanRow.{SpanRow}
 use Rattle.model_archive.specs.declared.refusal.Refusal.{Refusal}
 use Rattle.model_archive.specs.declared.refusal.Refusal.TheVariants as refusals
 use Rattle.model_archive.specs.declared.verdict.Verdict.{Verdict}
-use Rattle.model_archive.specs.Histories.{History, entry_refusal, end_of, text_at}
+use Rattle.model_archive.specs.Histories.{History, act_refusal, entry_refusal, old_format, long_batch, most_batch, singles, end_of, text_at}
 use Rattle.model_archive.specs.Answers.{IsAnswerAt, IsSpanAnswerAt}
 use Rattle.model_archive.specs.Chosen.{IsReadFor}
 use Rattle.model_archive.specs.Planning.{OfPhrase, OfTerm, IsListUpTo, last_second}
@@ -66,6 +74,8 @@ pub data Reply : Type 0 where
   Accepted : ℕ → Reply
   -- it is refused, and nothing changes
   Refused : Refusal → Reply
+  -- the same for an item of a batch, by its number, from 1
+  RefusedIn : Refusal → ℕ → Reply
   -- the rows that match, and how many postings were read for them
   Found : List Row → ℕ → Reply
   -- the same of a window of time
@@ -221,11 +231,82 @@ abbrev pub Arrives : History → DocId → Time → Text → Reply → History �
 Arrives old doc at (texts.Bytes text) reply new = Adds old (entries.Arrive doc at text) (arrival_refusal old doc at text) reply new
 Arrives old doc at (texts.TooLong bytes) reply new = Declines old (refusals.TooLong most_text) reply new
 
+-- why a batch is refused, and the number of the item for which it is, where it is for one
+pub record Cause : Type 0 where
+  pub why : Refusal
+  pub index : Option ℕ
+
+-- the number of the first item that is neither an arrival nor a deletion, where the first of these has this number
+abbrev pub first_other : ℕ → List BatchItem → Option ℕ
+first_other index [] = None
+first_other index (members.Other ∷ items) = Some index
+first_other index (item ∷ items) = first_other (index + 1) items
+
+-- the text of an item as it would be in an act (where it was too long to be held, the batch is refused)
+abbrev pub text_held : Text → List ℕ
+text_held (texts.Bytes text) = text
+text_held (texts.TooLong bytes) = []
+
+-- the act that an item is, if it is one
+abbrev pub act_of : BatchItem → List Act
+act_of (members.Arrive doc at text) = batched.Arrive doc at (text_held text) ∷ []
+act_of (members.Delete doc at) = batched.Delete doc at ∷ []
+act_of members.Other = []
+
+-- why a text is no version's
+abbrev pub text_refusal : Text → Option Refusal
+text_refusal (texts.Bytes text) = first_of (too_long text ∷ bad_text text ∷ [])
+text_refusal (texts.TooLong bytes) = Some (refusals.TooLong most_text)
+
+-- why an item may not come after a history: its text is none, or the act may not come
+abbrev pub item_refusal : History → BatchItem → Option Refusal
+item_refusal before (members.Arrive doc at text) = first_of (text_refusal text ∷ act_refusal before (batched.Arrive doc at (text_held text)) ∷ [])
+item_refusal before (members.Delete doc at) = act_refusal before (batched.Delete doc at)
+item_refusal before members.Other = None
+
+-- a cause for the whole batch
+abbrev pub for_all : Option Refusal → Option Cause
+for_all refusal = option_map (λ why. record { why = why; index = None }) refusal
+
+-- the first item that is refused behind those before it, where the first of these has this number
+abbrev pub items_cause : History → ℕ → List BatchItem → Option Cause
+items_cause before index [] = None
+items_cause before index (item ∷ items) = first_of (
+    option_map (λ why. record { why = why; index = Some index }) (item_refusal before item)
+    ∷ items_cause (before ++ singles (act_of item)) (index + 1) items
+    ∷ [])
+
+-- why a batch is refused: the first cause in order
+abbrev pub batch_cause : History → List BatchItem → Option Cause
+batch_cause old items = first_of (
+    for_all (old_format old)
+    ∷ for_all (long_batch (texts_bytes items))
+    ∷ for_all (option_map (λ index. refusals.BatchLine index) (first_other 1 items))
+    ∷ items_cause old 1 items
+    ∷ for_all (full_journal old (entries.Batch (flat_map act_of items)))
+    ∷ [])
+
+-- how a batch is refused: for an item, or whole
+abbrev pub refused_for : Refusal → Option ℕ → Reply
+refused_for why None = Refused why
+refused_for why (Some index) = RefusedIn why index
+
+-- a batch that is accepted comes behind the history as one entry; one that is refused changes nothing
+abbrev pub AddsBatch : History → Entry → Option Cause → Reply → History → Type 0
+AddsBatch old entry None reply new = (new ≡ old ++ entry ∷ []) × (reply ≡ Accepted (length new))
+AddsBatch old entry (Some cause) reply new = (new ≡ old) × (reply ≡ refused_for cause.why cause.index)
+
+-- a batch comes, with items that were held, or with some whose texts are together too long to be
+abbrev pub Batches : History → BatchItems → Reply → History → Type 0
+Batches old (Items items) reply new = AddsBatch old (entries.Batch (flat_map act_of items)) (batch_cause old items) reply new
+Batches old (TooLong bytes) reply new = Declines old (unwrap_or (old_format old) (refusals.BatchTooLong most_batch)) reply new
+
 -- from the old history, the archive may give this reply to the command and go on to the new one; a command to come is refused as a line that is none
 abbrev pub CarriesOut : History → Command → Reply → History → Type 0
 CarriesOut old (commands.Arrive doc at text) reply new = Arrives old doc at text reply new
 CarriesOut old (commands.Delete doc at) reply new = Adds old (entries.Delete doc at) (deletion_refusal old doc at) reply new
 CarriesOut old commands.Format reply new = Adds old entries.Format (mark_refusal old) reply new
+CarriesOut old (commands.Batch batch) reply new = Batches old batch reply new
 CarriesOut old (commands.Find at expr) reply new = (new ≡ old) × Finds old at expr reply
 CarriesOut old (commands.Show doc at) reply new = (new ≡ old) × (reply ≡ Version (text_at old doc at.seconds))
 CarriesOut old (commands.Plan word kind fraction) reply new = Plans old word kind fraction reply new

@@ -1,0 +1,72 @@
+-- A batch and its acts as entries of their own.
+use Rattle.std.specs.Prelude.{◌≡◌, ℕ, ◌+◌, List, [], ◌∷◌, ◌++◌, length, map, Option, Some, None, refl}
+use Rattle.std.specs.List.{flat_map}
+use Rattle.std.specs.Option.{option_map}
+use Rattle.std.proofs.Common.{sym, ap, subst, ◌∙◌, arith, append_assoc}
+use Rattle.std.proofs.lemmas.List.{append-nil}
+use Rattle.std.proofs.lemmas.List.Concat.{flat_map-append}
+use Rattle.text_words.specs.Words.{distinct}
+use Rattle.lists_versions.specs.declared.change.Change.{Change}
+use Rattle.lists_versions.specs.Tests.{first_of}
+use Rattle.journal_entries.specs.declared.act.Act.{Act}
+use Rattle.journal_entries.specs.declared.act.Act.TheVariants as batched
+use Rattle.journal_entries.specs.declared.entry.Entry.{Entry}
+use Rattle.journal_entries.specs.declared.entry.Entry.TheVariants.{Arrive, Delete, Planned, Format, Batch}
+use Rattle.journal_entries.specs.Acts.{alone}
+use Rattle.model_archive.specs.declared.refusal.Refusal.{Refusal}
+use Rattle.model_archive.specs.Histories.{History, acts, changes, change_by, act_keys, entry_keys, vocabulary, singles, act_refusal, acts_refusal, entry_refusal, old_format, long_batch}
+
+-- nothing refuses these entries behind those before them
+abbrev pub EachAllowed : History → List Entry → Type 0
+EachAllowed before [] = Unit {0}
+EachAllowed before (e ∷ entries) = (entry_refusal before e ≡ None) × EachAllowed (before ++ e ∷ []) entries
+
+-- where no test finds a cause, the first finds none, nor do the others
+pub none_found : {W : Type 0} (o : Option W) (tests : List (Option W)) → first_of (o ∷ tests) ≡ None → (o ≡ None) × (first_of tests ≡ None)
+none_found None tests none = (refl, none)
+none_found (Some why) tests none = absurd cc
+
+pub none_mapped : {V W : Type 0} (f : V → W) (o : Option V) → option_map f o ≡ None → o ≡ None
+none_mapped f None none = refl
+none_mapped f (Some why) none = absurd cc
+
+alone_changes : (a : Act) → acts (alone a) ≡ change_by a ∷ []
+alone_changes (batched.Arrive doc at text) = refl
+alone_changes (batched.Delete doc at) = refl
+
+alone_keys : (a : Act) → entry_keys (alone a) ≡ act_keys a
+alone_keys (batched.Arrive doc at text) = refl
+alone_keys (batched.Delete doc at) = refl
+
+alone_refusal : (h : History) (a : Act) → entry_refusal h (alone a) ≡ act_refusal h a
+alone_refusal h (batched.Arrive doc at text) = refl
+alone_refusal h (batched.Delete doc at) = refl
+
+pub singles_changes : (batch : List Act) → flat_map acts (singles batch) ≡ map change_by batch
+singles_changes [] = refl
+singles_changes (a ∷ batch) = ap (λ (cs : List (Change (List ℕ))). cs ++ flat_map acts (singles batch)) (alone_changes a) ∙ ap (λ (cs : List (Change (List ℕ))). change_by a ∷ cs) (singles_changes batch)
+
+singles_keys : (batch : List Act) → flat_map entry_keys (singles batch) ≡ flat_map act_keys batch
+singles_keys [] = refl
+singles_keys (a ∷ batch) = (λ i. alone_keys a i ++ singles_keys batch i)
+
+pub batch_changes : (h : History) (batch : List Act) → changes (h ++ Batch batch ∷ []) ≡ changes (h ++ singles batch)
+batch_changes h batch =
+    flat_map-append acts h (Batch batch ∷ []) ∙ ap (λ (cs : List (Change (List ℕ))). changes h ++ cs) (append-nil (map change_by batch) ∙ sym (singles_changes batch)) ∙ sym (flat_map-append acts h (singles batch))
+
+pub batch_words : (h : History) (batch : List Act) → vocabulary (h ++ Batch batch ∷ []) ≡ vocabulary (h ++ singles batch)
+batch_words h batch =
+    ap distinct (flat_map-append entry_keys h (Batch batch ∷ []) ∙ ap (λ (ks : List (List ℕ)). flat_map entry_keys h ++ ks) (append-nil (flat_map act_keys batch) ∙ sym (singles_keys batch)) ∙ sym (flat_map-append entry_keys h (singles batch)))
+
+acts_allowed : (h : History) (batch : List Act) → acts_refusal h batch ≡ None → EachAllowed h (singles batch)
+acts_allowed h [] none = tt
+acts_allowed h (a ∷ batch) none =
+    let both = none_found (act_refusal h a) (acts_refusal (h ++ alone a ∷ []) batch ∷ []) none in
+    let rest = none_found (acts_refusal (h ++ alone a ∷ []) batch) [] both.1 in
+    (alone_refusal h a ∙ both.0, acts_allowed (h ++ alone a ∷ []) batch rest.0)
+
+pub batch_allowed : (h : History) (batch : List Act) → entry_refusal h (Batch batch) ≡ None → EachAllowed h (singles batch)
+batch_allowed h batch none =
+    let one = none_found (old_format h) _ none in
+    let two = none_found _ (acts_refusal h batch ∷ []) one.1 in
+    acts_allowed h batch (none_found (acts_refusal h batch) [] two.1).0
