@@ -3,7 +3,7 @@ use Rattle.std.specs.Prelude.{ℕ, List, [], ◌∷◌, ◌++◌, length, sum_by
 use Rattle.std.specs.Fmt.{decimal}
 use Rattle.model_archive.specs.declared.verdict.Verdict.{Verdict}
 use Rattle.model_archive.specs.Replies.{reply_text}
-use Rattle.model_archive.specs.Steps.{Reply, Accepted, Refused, Found, Planned, Verified}
+use Rattle.model_archive.specs.Steps.{Reply, Accepted, Refused, RefusedIn, Found, Planned, Verified}
 use Rattle.archive_replies.specs.declared.tally.Tally.{Tally}
 
 -- what counts for none
@@ -16,6 +16,7 @@ abbrev pub count_of : Reply → Tally
 count_of (Accepted count) = record no_count { accepted = 1 }
 count_of (Planned summary) = record no_count { accepted = 1 }
 count_of (Refused why) = record no_count { refused = 1 }
+count_of (RefusedIn why index) = record no_count { refused = 1 }
 count_of (Found rows read) = record no_count { hits = length rows; read = read }
 count_of other = no_count
 

@@ -2,7 +2,7 @@
 ghost use Rattle.std.specs.Prelude.{◌≡◌, ◌+◌, ◌≤◌, [], ◌++◌, length, codes, decimal, Some, None, IfOk, OnOk, OnErr};
 ghost use Rattle.archive_replies.specs.Pages.{reply_room};
 ghost use Rattle.model_archive.specs.Replies.{cost_text, detail_text, end_text, node_text, reply_text, row_text, segment_text, space_text, span_text, which_text};
-ghost use Rattle.model_archive.specs.Steps.{Accepted, Refused, Found, Spanned, Version, Proposed, Planned};
+ghost use Rattle.model_archive.specs.Steps.{Accepted, Refused, RefusedIn, Found, Spanned, Version, Proposed, Planned};
 
 use base_types::{Span, Which};
 use itoa::Buffer;
@@ -88,6 +88,19 @@ impl ReplyPage {
         self.put_named(b"no ", u64::from(refusal.number()));
         self.put(b" ");
         self.put_detail(refusal);
+        self.put(b"\n");
+    }
+
+    /// Writes the reply to a batch that is refused for its item of this number, from 1, in place of
+    /// what the page held. It takes no memory. Constant cost.
+    pub fn refused_in(&mut self, refusal: Refusal, index: u32)
+        ensures { self.new.bytes ≡ reply_text (RefusedIn refusal index) }
+    {
+        self.clear();
+        self.put_named(b"no ", u64::from(refusal.number()));
+        self.put(b" ");
+        self.put_detail(refusal);
+        self.put_named(b" in ", u64::from(index));
         self.put(b"\n");
     }
 
