@@ -1,8 +1,9 @@
 -- The changes of a legal history: each change of a document comes later than the one before it; and the index of their texts.
-use Rattle.std.proofs.Common.{◌≡◌, ℕ, ◌-◌, ◌<◌, ◌≤◌, ◌==◌, Bool, true, false, nat_lt, inl, inr, append_assoc, option_and_then, List, [], ◌∷◌, ◌++◌, length, All, Option, Some, None, refl, ap, subst, sym, ◌∙◌, arith, append-nil, ◌^◌}
+use Rattle.std.proofs.Common.{◌≡◌, ℕ, ◌-◌, ◌<◌, ◌≤◌, ◌==◌, Bool, true, false, nat_lt, inl, inr, append_assoc, option_and_then, List, [], ◌∷◌, ◌++◌, length, map, All, Option, Some, None, refl, ap, subst, sym, ◌∙◌, arith, append-nil, ◌^◌}
 use Rattle.std.proofs.lemmas.Bool.{ltb-false, eq-eqb, cases_lt}
 use Rattle.std.proofs.lemmas.Option.{slice_get_within, get_or_from_slice_get}
 use Rattle.std.proofs.lemmas.List.{append-nil}
+use Rattle.std.proofs.lemmas.List.Concat.{flat_map-append}
 use Rattle.std.proofs.lemmas.List.Elements.{All-nil, All-push, All-weaker, All-filter, All-cons, All-head}
 use Rattle.base_types.specs.declared.ids.DocId.{DocId}
 use Rattle.base_types.specs.declared.time.Time.{Time}
@@ -11,15 +12,19 @@ use Rattle.lists_versions.specs.declared.change.Change.{Change}
 use Rattle.lists_versions.specs.declared.refusal.VersionRefusal.TheVariants.{TimeBack, SameTime}
 use Rattle.lists_versions.specs.Changes.{changes_of, last_of, latest}
 use Rattle.lists_versions.specs.Refusals.{time_back, same_time, no_document, full_documents, full_versions}
-use Rattle.lists_versions.specs.Tests.{first_of, when}
+use Rattle.lists_versions.specs.Tests.{when}
 use Rattle.lists_versions.proofs.Latest.{changes_of-same, changes_of-other, last_of-cons, last_time-push}
 use Rattle.lists_versions.proofs.Indexed.{same-is}
+use Rattle.journal_entries.specs.Acts.{alone}
+use Rattle.journal_entries.specs.declared.act.Act.{Act}
+use Rattle.journal_entries.specs.declared.act.Act.TheVariants as batched
 use Rattle.journal_entries.specs.declared.entry.Entry.{Entry}
-use Rattle.journal_entries.specs.declared.entry.Entry.TheVariants.{Arrive, Delete, Planned, Format}
+use Rattle.journal_entries.specs.declared.entry.Entry.TheVariants.{Arrive, Delete, Planned, Format, Batch}
 use Rattle.plans_kinds.specs.Plans.{IsFitFor}
-use Rattle.model_archive.specs.Histories.{History, changes, acts, entry_refusal, entry_keys, vocabulary, full_words}
-use Rattle.model_archive.specs.Legal.{IsLoadable}
-use Rattle.model_archive.proofs.LiveLemmas.{EachAllowed, come_allowed, allowed_push}
+use Rattle.model_archive.specs.Histories.{History, changes, change_by, acts, act_keys, singles, entry_refusal, entry_keys, vocabulary, full_words}
+use Rattle.model_archive.specs.Legal.{EachAllowed, IsLoadable}
+use Rattle.model_archive.proofs.BatchLemmas.{none_found, batch_changes, batch_allowed}
+use Rattle.model_archive.proofs.LiveLemmas.{come_allowed, allowed_push}
 use Rattle.model_archive.proofs.HistoryLemmas.{changes-push}
 use Rattle.model_archive.proofs.RefusalLemmas.{not_refused, arrival-allowed, too_many_words, words_fit}
 use Rattle.std.specs.List.{flat_map}
@@ -104,32 +109,44 @@ rising_push cs c was back same = record {
         let E : List (Change (List ℕ)) → Type 0 = λ l. EachNext (λ a b. a.at.seconds < b.at.seconds) l in
         subst E (sym (changes_of-other doc cs c e)) (was.rise doc)
 
--- the first of the causes against a change
-none_found : {W : Type 0} (o : Option W) (tests : List (Option W)) → first_of (o ∷ tests) ≡ None → (o ≡ None) × (first_of tests ≡ None)
-none_found None tests none = (refl, none)
-none_found (Some why) tests none = absurd cc
+rising_act : (before : History) (act : Act) → entry_refusal before (alone act) ≡ None → IsRising (changes before) → IsRising (changes (before ++ alone act ∷ []))
+rising_act before (batched.Arrive doc at text) next was =
+    let C : List (Change (List ℕ)) → Type 0 = λ cs. IsRising cs in
+    let cs = changes before in
+    let one = none_found (time_back at cs) (same_time doc at cs ∷ full_documents doc cs ∷ full_versions cs ∷ []) (arrival-allowed before doc at text next) in
+    let two = none_found (same_time doc at cs) (full_documents doc cs ∷ full_versions cs ∷ []) one.1 in
+    subst C (sym (changes-push before (Arrive doc at text))) (rising_push cs (record { doc = doc; at = at; held = Some text }) was one.0 two.0)
+rising_act before (batched.Delete doc at) next was =
+    let C : List (Change (List ℕ)) → Type 0 = λ cs. IsRising cs in
+    let cs = changes before in
+    let one = none_found (time_back at cs) (no_document doc cs ∷ same_time doc at cs ∷ full_versions cs ∷ []) (not_refused _ next) in
+    let two = none_found (no_document doc cs) (same_time doc at cs ∷ full_versions cs ∷ []) one.1 in
+    let three = none_found (same_time doc at cs) (full_versions cs ∷ []) two.1 in
+    subst C (sym (changes-push before (Delete doc at))) (rising_push cs (record { doc = doc; at = at; held = None }) was one.0 three.0)
+
+rising_acts : (before : History) (batch : List Act) → EachAllowed before (singles batch) → IsRising (changes before) → IsRising (changes (before ++ singles batch))
+rising_acts before [] allowed was = let P : History → Type 0 = λ g. IsRising (changes g) in subst P (sym (append-nil before)) was
+rising_acts before (act ∷ batch) allowed was =
+    let P : History → Type 0 = λ g. IsRising (changes g) in
+    subst P (append_assoc before (alone act ∷ []) (singles batch)) (rising_acts (before ++ alone act ∷ []) batch allowed.1 (rising_act before act allowed.0 was))
+
+-- so do those of any history with the same changes
+rising_by : (h other : History) → changes other ≡ changes h → IsRising (changes h) → IsRising (changes other)
+rising_by h other same was = let C : List (Change (List ℕ)) → Type 0 = λ cs. IsRising cs in subst C (sym same) was
+
+rising_entry : (before : History) (e : Entry) → entry_refusal before e ≡ None → IsRising (changes before) → IsRising (changes (before ++ e ∷ []))
+rising_entry before (Arrive doc at text) next was = rising_act before (batched.Arrive doc at text) next was
+rising_entry before (Delete doc at) next was = rising_act before (batched.Delete doc at) next was
+rising_entry before (Planned plan) next was = rising_by before (before ++ Planned plan ∷ []) (changes-push before (Planned plan) ∙ append-nil (changes before)) was
+rising_entry before Format next was = rising_by before (before ++ Format ∷ []) (changes-push before Format ∙ append-nil (changes before)) was
+rising_entry before (Batch batch) next was =
+    rising_by (before ++ singles batch) (before ++ Batch batch ∷ []) (batch_changes before batch) (rising_acts before batch (batch_allowed before batch next) was)
 
 rising_more : (before h : History) → EachAllowed before h → IsRising (changes before) → IsRising (changes (before ++ h))
 rising_more before [] allowed was = let P : History → Type 0 = λ g. IsRising (changes g) in subst P (sym (append-nil before)) was
 rising_more before (e ∷ h) allowed was =
     let P : History → Type 0 = λ g. IsRising (changes g) in
-    let C : List (Change (List ℕ)) → Type 0 = λ cs. IsRising cs in
-    subst P (append_assoc before (e ∷ []) h) (rising_more (before ++ e ∷ []) h allowed.1 (subst C (sym (changes-push before e)) (go e allowed.0)))
-  where
-    go : (e : Entry) → entry_refusal before e ≡ None → IsRising (changes before ++ acts e)
-    go (Arrive doc at text) next =
-        let cs = changes before in
-        let one = none_found (time_back at cs) (same_time doc at cs ∷ full_documents doc cs ∷ full_versions cs ∷ []) (arrival-allowed before doc at text next) in
-        let two = none_found (same_time doc at cs) (full_documents doc cs ∷ full_versions cs ∷ []) one.1 in
-        rising_push cs (record { doc = doc; at = at; held = Some text }) was one.0 two.0
-    go (Delete doc at) next =
-        let cs = changes before in
-        let one = none_found (time_back at cs) (no_document doc cs ∷ same_time doc at cs ∷ full_versions cs ∷ []) (not_refused _ next) in
-        let two = none_found (no_document doc cs) (same_time doc at cs ∷ full_versions cs ∷ []) one.1 in
-        let three = none_found (same_time doc at cs) (full_versions cs ∷ []) two.1 in
-        rising_push cs (record { doc = doc; at = at; held = None }) was one.0 three.0
-    go (Planned plan) next = let C : List (Change (List ℕ)) → Type 0 = λ cs. IsRising cs in subst C (sym (append-nil (changes before))) was
-    go Format next = let C : List (Change (List ℕ)) → Type 0 = λ cs. IsRising cs in subst C (sym (append-nil (changes before))) was
+    subst P (append_assoc before (e ∷ []) h) (rising_more (before ++ e ∷ []) h allowed.1 (rising_entry before e allowed.0 was))
 
 pub allowed_rises : (h : History) → EachAllowed [] h → RiseByDocument (changes h)
 allowed_rises h allowed = (rising_more [] h allowed (record { last = 0; all = All-nil (λ c. c.at.seconds ≤ 0); back = λ at none. omega arith; rise = λ doc. tt })).rise
@@ -148,6 +165,7 @@ acts_are (Arrive doc at text) change = refl
 acts_are (Delete doc at) change = refl
 acts_are (Planned plan) change = absurd change
 acts_are Format change = absurd change
+acts_are (Batch batch) change = absurd change
 
 pub changes_more : (h : History) (e : Entry) → IsChange e → changes (h ++ e ∷ []) ≡ changes h ++ change_of e ∷ []
 changes_more h e change = changes-push h e ∙ ap (λ (l : List (Change (List ℕ))). changes h ++ l) (acts_are e change)
@@ -160,12 +178,18 @@ pub changes_marked : (h : History) → changes (h ++ Format ∷ []) ≡ changes 
 changes_marked h = changes-push h Format ∙ append-nil (changes h)
 
 -- the words of a history are those of its changes
+batch_keys : (batch : List Act) → flat_map act_keys batch ≡ flat_map index.keys_in (map change_by batch)
+batch_keys [] = refl
+batch_keys (batched.Arrive doc at text ∷ batch) = ap (λ (l : List (List ℕ)). act_keys (batched.Arrive doc at text) ++ l) (batch_keys batch)
+batch_keys (batched.Delete doc at ∷ batch) = batch_keys batch
+
 keys_are : (h : History) → flat_map entry_keys h ≡ flat_map index.keys_in (changes h)
 keys_are [] = refl
 keys_are (Arrive doc at text ∷ h) = ap (λ (l : List (List ℕ)). entry_keys (Arrive doc at text) ++ l) (keys_are h)
 keys_are (Delete doc at ∷ h) = keys_are h
 keys_are (Planned plan ∷ h) = keys_are h
 keys_are (Format ∷ h) = keys_are h
+keys_are (Batch batch ∷ h) = (λ i. batch_keys batch i ++ keys_are h i) ∙ sym (flat_map-append index.keys_in (map change_by batch) (changes h))
 
 pub words_are : (h : History) → vocabulary h ≡ index.words_in (changes h)
 words_are h = ap distinct (keys_are h)
@@ -199,6 +223,7 @@ makes_is_change (Arrive doc at text) x makes = tt
 makes_is_change (Delete doc at) x makes = tt
 makes_is_change (Planned plan) x makes = absurd makes
 makes_is_change Format x makes = absurd makes
+makes_is_change (Batch batch) x makes = absurd makes
 
 -- a change that an entry makes, with the entry's text
 pub makes_change : (e : Entry) (x : Change ℕ) (text : Option (List ℕ)) → Makes e x → text ≡ text_of e → change_of e ≡ record { doc = x.doc; at = x.at; held = text }
@@ -206,6 +231,7 @@ makes_change (Arrive doc at text) x held makes same = let one = makes.0 in let t
 makes_change (Delete doc at) x held makes same = let one = makes.0 in let two = makes.1 in cc
 makes_change (Planned plan) x held makes same = absurd makes
 makes_change Format x held makes same = absurd makes
+makes_change (Batch batch) x held makes same = absurd makes
 
 -- so whatever takes such a change takes the entry's
 pub takes_change : (P : List (Change (List ℕ)) → Type 0) (h : History) (e : Entry) (x : Change ℕ) (text : Option (List ℕ)) → Makes e x → text ≡ text_of e → EachAllowed [] h → entry_refusal h e ≡ None
@@ -222,6 +248,7 @@ no_plan (Arrive doc at text) change = tt
 no_plan (Delete doc at) change = tt
 no_plan (Planned plan) change = absurd change
 no_plan Format change = absurd change
+no_plan (Batch batch) change = absurd change
 
 -- the change of an entry that may come behind a history that loads
 pub change_comes : (h : History) (e : Entry) (x : Change ℕ) → IsLoadable h → entry_refusal h e ≡ None → Makes e x

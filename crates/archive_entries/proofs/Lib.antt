@@ -2,6 +2,7 @@ pub mod PlaceLemmas
 pub mod IndexLemmas
 mod ListLemmas
 mod LiveLemmas
+mod ActLemmas
 mod ReplayLemmas
 mod SettleLemmas
 mod PrepareLemmas

@@ -8,7 +8,8 @@ use Rattle.lists_versions.specs.Tests.{first_of}
 use Rattle.lists_versions.specs.declared.change.Change.{Change}
 use Rattle.lists_versions.specs.declared.refusal.VersionRefusal.{VersionRefusal}
 use Rattle.lists_versions.specs.Refusals.{arrive_refusal, delete_refusal}
-use Rattle.journal_entries.specs.Spelling.{spelling, most_text}
+use Rattle.journal_entries.specs.Acts.{most_text}
+use Rattle.journal_entries.specs.Spelling.{spelling}
 use Rattle.journal_entries.specs.declared.entry.Entry.TheVariants.{Arrive, Delete}
 use Rattle.base_types.specs.Limits.{limit_of}
 use Rattle.base_types.specs.declared.which.Which.TheVariants.{Words}

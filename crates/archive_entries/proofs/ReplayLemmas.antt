@@ -1,5 +1,5 @@
 -- Going over entries: one entry more, and one that is refused.
-use Rattle.std.proofs.Common.{◌≡◌, ℕ, ◌+◌, ◌<◌, ◌≤◌, ◌^◌, Bool, true, false, IsTrue, ◌↔◌, List, [], ◌∷◌, ◌++◌, length, sum_by, unwrap_or, Option, Some, None, IsSome, inr, refl, ap, subst, sym, ◌∙◌, arith, append_assoc, append-nil}
+use Rattle.std.proofs.Common.{◌≡◌, ℕ, ◌+◌, ◌<◌, ◌≤◌, ◌^◌, Bool, true, false, nat_lt, IsTrue, ◌↔◌, List, [], ◌∷◌, ◌++◌, length, map, sum_by, unwrap_or, Option, Some, None, IsSome, Result, Ok, Err, OnOk, inr, refl, ap, subst, sym, ◌∙◌, arith, append_assoc, append-nil}
 use Rattle.machine_model.specs.States.{DiskState}
 use Rattle.machine_model.specs.Calls.{OnlyReads}
 use Rattle.journal_gates.specs.declared.head.Head.{Head}
@@ -14,9 +14,11 @@ use Rattle.base_types.specs.declared.text_place.TextPlace.{TextPlace}
 use Rattle.lists_versions.specs.declared.change.Change.{Change}
 use Rattle.lists_versions.specs.declared.refusal.VersionRefusal.{VersionRefusal}
 use Rattle.lists_versions.specs.Refusals.{arrive_refusal, delete_refusal}
+use Rattle.journal_entries.specs.Acts.{act_length, alone, IsBatch}
+use Rattle.journal_entries.specs.declared.act.Act.{Act}
 use Rattle.journal_entries.specs.Spelling.{spelling, IsEntry}
 use Rattle.journal_entries.specs.declared.entry.Entry.{Entry}
-use Rattle.journal_entries.specs.declared.entry.Entry.TheVariants.{Arrive, Delete, Planned, Format}
+use Rattle.journal_entries.specs.declared.entry.Entry.TheVariants.{Arrive, Delete, Planned, Format, Batch}
 use Rattle.std.specs.Option.{option_map}
 use Rattle.model_archive.specs.Refusals.{refusal_of}
 use Rattle.lists_versions.specs.Tests.{first_of}
@@ -26,24 +28,27 @@ use Rattle.lists_index.specs.Loads.{Loaded, AreLoaded}
 use Rattle.model_archive.specs.declared.refusal.Refusal.{Refusal}
 use Rattle.model_archive.specs.declared.refusal.Refusal.TheVariants.{HasFormat}
 use Rattle.model_archive.specs.declared.stored.StoredPlan.{StoredPlan}
-use Rattle.model_archive.specs.Histories.{History, changes, end_of, entry_refusal, is_mark, is_marked}
-use Rattle.model_archive.specs.Legal.{MayBePlanned}
-use Rattle.model_archive.proofs.LiveLemmas.{EachAllowed}
+use Rattle.model_archive.specs.Histories.{History, acts, changes, singles, end_of, entry_refusal, is_mark, is_marked, old_format, long_batch, most_batch}
+use Rattle.model_archive.specs.Legal.{EachAllowed, MayBePlanned}
+use Rattle.model_archive.proofs.BatchLemmas.{none_found, allowed_behind, batch_allowed, batch_changes, batch_may}
+use Rattle.model_archive.proofs.LiveLemmas.{allowed_push}
 use Rattle.model_archive.proofs.StoringLemmas.{list_behind}
-use Rattle.archive_entries.specs.Texts.{nothing}
+use Rattle.archive_entries.specs.Texts.{bare, nothing}
 use Rattle.plans_kinds.specs.Plans.{IsFitFor}
 use Rattle.journal_entries.specs.declared.plan.PlanEntry.{PlanEntry}
-use Rattle.lists_versions.specs.Changes.{last_time}
+use Rattle.lists_versions.specs.Changes.{last_time, mapped}
 use Rattle.lists_versions.proofs.Mapped.{last_time-mapped}
+use Rattle.std.proofs.lemmas.Bool.{lt-ltb}
+use Rattle.std.proofs.lemmas.List.{map-append}
 use Rattle.std.proofs.lemmas.List.Sums.{sum_by-cons}
 use Rattle.model_archive.specs.Stands.{bodies_of}
-use Rattle.model_archive.proofs.HistoryLemmas.{bodies_of-push, end_of-push, end_of_is, marked_push, unmarked_push}
-use Rattle.archive_entries.specs.Places.{ArePlaced}
+use Rattle.model_archive.proofs.HistoryLemmas.{bodies_of-push, changes-push, end_of-push, end_of_is, marked_push, unmarked_push}
+use Rattle.archive_entries.specs.Places.{ArePlaced, pair_of, placed_acts}
 use Rattle.model_archive.proofs.RefusalLemmas.{arrival-refused, arrival-words, when_false}
 use Rattle.archive_entries.specs.Entries.{IsChange, Makes, IsHeld, change_refusal, text_of}
 use Rattle.archive_entries.proofs.IndexLemmas.{change_of, changes_marked, changes_still, makes_change, makes_is_change, takes_change, words_full, words_within}
-use Rattle.archive_entries.specs.Replaying.{IsTimely, IfTimely, IsOpen, AreOpen, plans_in, plans_from, IsReached, IsGoneOver, IsFaulty, IsReplaying, IsNextBad}
-use Rattle.archive_entries.proofs.PlaceLemmas.{bare_changes, placed_mark, placed_more, placed_plan, placed_arrive_refusal, placed_delete_refusal}
+use Rattle.archive_entries.specs.Replaying.{IsTimely, IfTimely, IsOpen, AreOpen, plans_in, plans_from, IsReached, AreMet, HasAhead, IsGoneOver, IsFaulty, IsReplaying, IsNextBad}
+use Rattle.archive_entries.proofs.PlaceLemmas.{acts_push, bare_arrive_refusal, bare_changes, bare_delete_refusal, makes_bare, placed_batch, placed_mark, placed_more, placed_plan}
 
 -- ---- entries that may come as far as is asked at once
 
@@ -74,6 +79,7 @@ timely_change h gate (Arrive doc at text) change = (tt, refl, refl)
 timely_change h gate (Delete doc at) change = (tt, refl, refl)
 timely_change h gate (Planned plan) change = absurd change
 timely_change h gate Format change = absurd change
+timely_change h gate (Batch batch) change = absurd change
 
 -- ---- a change of a document
 
@@ -84,23 +90,26 @@ directory_refusal h (Delete doc at) = delete_refusal doc at (changes h)
 directory_refusal h other = None
 
 -- is its cause against the change that the entry makes
-makes_refusal : (e : Entry) (x : Change ℕ) (h : History) (cs : List (Change TextPlace)) → Makes e x → ArePlaced 16 h cs → change_refusal x cs ≡ directory_refusal h e
-makes_refusal (Arrive doc at text) x h cs makes placed = rw (makes.2, ← makes.0, ← makes.1) (placed_arrive_refusal doc at 16 h cs placed)
-makes_refusal (Delete doc at) x h cs makes placed = rw (makes.2, ← makes.0, ← makes.1) (placed_delete_refusal doc at 16 h cs placed)
-makes_refusal (Planned plan) x h cs makes placed = absurd makes
-makes_refusal Format x h cs makes placed = absurd makes
+makes_refusal : (e : Entry) (x : Change ℕ) (h : History) (cs : List (Change TextPlace)) → Makes e x → map bare cs ≡ map bare (changes h) → change_refusal x cs ≡ directory_refusal h e
+makes_refusal (Arrive doc at text) x h cs makes same = rw (makes.2, ← makes.0, ← makes.1) (bare_arrive_refusal doc at h cs same)
+makes_refusal (Delete doc at) x h cs makes same = rw (makes.2, ← makes.0, ← makes.1) (bare_delete_refusal doc at h cs same)
+makes_refusal (Planned plan) x h cs makes same = absurd makes
+makes_refusal Format x h cs makes same = absurd makes
+makes_refusal (Batch batch) x h cs makes same = absurd makes
 
 entry_allowed : (h : History) (e : Entry) → IsChange e → directory_refusal h e ≡ None → length (words_in (changes h ++ change_of e ∷ [])) ≤ 2 ^ 20 → entry_refusal h e ≡ None
 entry_allowed h (Arrive doc at text) change allowed within = arrival-words h doc at text allowed ∙ ap (λ (o : Option Refusal). first_of (o ∷ [])) (words_within h (Arrive doc at text) tt within)
 entry_allowed h (Delete doc at) change allowed within = ap (option_map refusal_of) allowed
 entry_allowed h (Planned plan) change allowed within = absurd change
 entry_allowed h Format change allowed within = absurd change
+entry_allowed h (Batch batch) change allowed within = absurd change
 
 entry_refused : (h : History) (e : Entry) (why : VersionRefusal) → directory_refusal h e ≡ Some why → entry_refusal h e ≡ None → ⊥
 entry_refused h (Arrive doc at text) why refused none = let some = arrival-refused h doc at text why refused in cc
 entry_refused h (Delete doc at) why refused none = let some = ap (option_map refusal_of) refused in cc
 entry_refused h (Planned plan) why refused none = absurd cc
 entry_refused h Format why refused none = absurd cc
+entry_refused h (Batch batch) why refused none = absurd cc
 
 entry_words : (h : History) (e : Entry) → directory_refusal h e ≡ None → IsSome (text_of e) → 2 ^ 20 < length (words_in (changes h ++ change_of e ∷ [])) → entry_refusal h e ≡ None → ⊥
 entry_words h (Arrive doc at text) allowed some over none =
@@ -109,52 +118,116 @@ entry_words h (Arrive doc at text) allowed some over none =
 entry_words h (Delete doc at) allowed some over none = cc
 entry_words h (Planned plan) allowed some over none = cc
 entry_words h Format allowed some over none = cc
+entry_words h (Batch batch) allowed some over none = cc
 
--- an entry that neither the directory nor the index refuses
-pub gone_over : {marked : Bool} (gate : ℕ) (h : History) (e : Entry) (x : Change ℕ) (held : Option TextPlace) (cs more : List (Change TextPlace)) (plans : List StoredPlan) (loader : Loaded) (text : Option (List ℕ))
-    → IsReached gate h cs plans marked → IsEntry e → Makes e x → change_refusal x cs ≡ None → IsHeld (gate + 18) x.held held
-    → more ≡ cs ++ record { doc = x.doc; at = x.at; held = held } ∷ [] → text ≡ text_of e
+-- what follows where a result is Ok
+pub on_ok : {A B : Type 0} {P Q R : Type 0} (r : Result A B) → OnOk r P → OnOk r Q → (P → Q → R) → OnOk r R
+on_ok (Ok a) p q follows = follows p q
+on_ok (Err e) p q follows = tt
+
+-- what a load has where its entries were gone over
+pub reached_met : {marked : Bool} (gate : ℕ) (h : History) (cs : List (Change TextPlace)) (plans : List StoredPlan) (loader : Loaded) → IsReached gate h cs plans marked → AreLoaded loader (changes h) → AreMet h cs loader
+reached_met gate h cs plans loader reached loads = record { allowed = open_allowed [] h reached.opens; same = bare_changes 16 h cs reached.placed; loads = loads }
+
+-- a change that neither the directory nor the index refuses
+pub met_more : (h : History) (e : Entry) (x : Change ℕ) (held : Option TextPlace) (at : ℕ) (cs more : List (Change TextPlace)) (loader after : Loaded) (text : Option (List ℕ))
+    → AreMet h cs loader → Makes e x → change_refusal x cs ≡ None → IsHeld at x.held held → more ≡ cs ++ record { doc = x.doc; at = x.at; held = held } ∷ [] → text ≡ text_of e
     → length (words_in (changes h ++ record { doc = x.doc; at = x.at; held = text } ∷ [])) ≤ 2 ^ 20
-    → (ComesLater (changes h) (record { doc = x.doc; at = x.at; held = text }) → AreLoaded loader (changes h ++ record { doc = x.doc; at = x.at; held = text } ∷ []))
-    → IsGoneOver gate h (spelling e) more plans marked loader
-gone_over gate h e x held cs more plans loader text reached ranges makes allowed is pushed same within takes =
+    → (ComesLater (changes h) (record { doc = x.doc; at = x.at; held = text }) → AreLoaded after (changes h ++ record { doc = x.doc; at = x.at; held = text } ∷ []))
+    → (entry_refusal h e ≡ None) × AreMet (h ++ e ∷ []) more after
+met_more h e x held at cs more loader after text met makes allowed is pushed same within takes =
     let change = makes_change e x text makes same in
     let is_change = makes_is_change e x makes in
-    let may : entry_refusal h e ≡ None = entry_allowed h e is_change (sym (makes_refusal e x h cs makes reached.placed) ∙ allowed) (omega (arith, within, ap (λ (c : Change (List ℕ)). length (words_in (changes h ++ c ∷ []))) change)) in
+    let one = record { doc = x.doc; at = x.at; held = held } ∷ [] in
+    let may : entry_refusal h e ≡ None = entry_allowed h e is_change (sym (makes_refusal e x h cs makes met.same) ∙ allowed) (omega (arith, within, ap (λ (c : Change (List ℕ)). length (words_in (changes h ++ c ∷ []))) change)) in (
+      may,
+      record {
+        allowed = allowed_push [] h e met.allowed may;
+        same = ap (λ (l : List (Change TextPlace)). map bare l) pushed ∙ map-append bare cs one ∙ (λ i. met.same i ++ makes_bare e x held at makes is i) ∙ sym (map-append bare (changes h) (acts e))
+            ∙ ap (λ (l : List (Change (List ℕ))). map bare l) (sym (changes-push h e));
+        loads = takes_change (AreLoaded after) h e x text makes same met.allowed may takes;
+      },
+    )
+
+-- one that the directory refuses
+pub met_refused : (h : History) (e : Entry) (x : Change ℕ) (why : VersionRefusal) (cs : List (Change TextPlace)) (loader : Loaded) → AreMet h cs loader → Makes e x → change_refusal x cs ≡ Some why → entry_refusal h e ≡ None → ⊥
+met_refused h e x why cs loader met makes refused = entry_refused h e why (sym (makes_refusal e x h cs makes met.same) ∙ refused)
+
+-- one whose words are too many
+pub met_wordy : (h : History) (e : Entry) (x : Change ℕ) (cs : List (Change TextPlace)) (loader : Loaded) (text : Option (List ℕ)) → AreMet h cs loader → Makes e x → change_refusal x cs ≡ None → text ≡ text_of e → IsSome text
+    → 2 ^ 20 < length (words_in (changes h ++ record { doc = x.doc; at = x.at; held = text } ∷ [])) → entry_refusal h e ≡ None → ⊥
+met_wordy h e x cs loader text met makes allowed same some over =
+    entry_words h e (sym (makes_refusal e x h cs makes met.same) ∙ allowed) (subst (λ (o : Option (List ℕ)). IsSome o) same some)
+    (omega (arith, over, ap (λ (c : Change (List ℕ)). length (words_in (changes h ++ c ∷ []))) (makes_change e x text makes same)))
+
+-- an entry that is a change and isn't refused
+pub gone_over : {marked now_marked : Bool} (gate : ℕ) (h : History) (e : Entry) (x : Change ℕ) (held : Option TextPlace) (cs more : List (Change TextPlace)) (plans others : List StoredPlan) (loader : Loaded)
+    → IsReached gate h cs plans marked → IsEntry e → Makes e x → entry_refusal h e ≡ None → AreMet (h ++ e ∷ []) more loader → IsHeld (gate + 18) x.held held
+    → more ≡ cs ++ record { doc = x.doc; at = x.at; held = held } ∷ [] → others ≡ plans → now_marked ≡ marked → IsGoneOver gate h (spelling e) more others now_marked loader
+gone_over gate h e x held cs more plans others loader reached ranges makes may met is pushed same still =
+    let timely = timely_change h gate e (makes_is_change e x makes) in
     record {
       entry = e;
       spelled = refl;
       reached = record {
-        opens = open_push [] h e reached.opens (record { ranges = ranges; allowed = may; timely = (timely_change h gate e is_change).0 });
+        opens = open_push [] h e reached.opens (record { ranges = ranges; allowed = may; timely = timely.0 });
         gate_is = omega (arith, reached.gate_is, end_of-push h e);
         placed = subst (λ (l : List (Change TextPlace)). ArePlaced 16 (h ++ e ∷ []) l) (sym pushed) (placed_more h cs e x held gate reached.placed reached.gate_is makes is);
-        plans_are = reached.plans_are ∙ sym (plans_push h e gate reached.gate_is ∙ ap (λ (l : List StoredPlan). plans_from 16 h ++ l) (timely_change h gate e is_change).1 ∙ append-nil (plans_from 16 h));
-        marked_is = reached.marked_is ∙ sym (unmarked_push h e (timely_change h gate e is_change).2);
+        plans_are = same ∙ reached.plans_are ∙ sym (plans_push h e gate reached.gate_is ∙ ap (λ (l : List StoredPlan). plans_from 16 h ++ l) timely.1 ∙ append-nil (plans_from 16 h));
+        marked_is = still ∙ reached.marked_is ∙ sym (unmarked_push h e timely.2);
       };
-      loads = takes_change (AreLoaded loader) h e x text makes same (open_allowed [] h reached.opens) may takes;
+      loads = met.loads;
     }
 
--- an entry that the directory refuses
-pub refused_there : {marked : Bool} (gate : ℕ) (h : History) (e : Entry) (x : Change ℕ) (why : VersionRefusal) (cs : List (Change TextPlace)) (plans : List StoredPlan) (at : ℕ)
-    → IsReached gate h cs plans marked → IsEntry e → Makes e x → change_refusal x cs ≡ Some why → at ≡ gate → IsFaulty gate h (spelling e) at
-refused_there gate h e x why cs plans at reached ranges makes refused here =
-    inr (record { entry = e; ranges = ranges; spelled = refl; refused = λ may. entry_refused h e why (sym (makes_refusal e x h cs makes reached.placed) ∙ refused) may.allowed }, here)
+-- an entry that is refused
+pub faulty : (gate : ℕ) (h : History) (e : Entry) (at : ℕ) → IsEntry e → (entry_refusal h e ≡ None → ⊥) → at ≡ gate → IsFaulty gate h (spelling e) at
+faulty gate h e at ranges refused here = inr (record { entry = e; ranges = ranges; spelled = refl; refused = λ may. refused may.allowed }, here)
 
--- an entry whose words are too many
-pub words_there : {marked : Bool} (gate : ℕ) (h : History) (e : Entry) (x : Change ℕ) (cs : List (Change TextPlace)) (plans : List StoredPlan) (at : ℕ) (text : Option (List ℕ))
-    → IsReached gate h cs plans marked → IsEntry e → Makes e x → change_refusal x cs ≡ None → text ≡ text_of e → IsSome text
-    → 2 ^ 20 < length (words_in (changes h ++ record { doc = x.doc; at = x.at; held = text } ∷ [])) → at ≡ gate → IsFaulty gate h (spelling e) at
-words_there gate h e x cs plans at text reached ranges makes allowed same some over here =
-    let change = makes_change e x text makes same in
-    inr (
-      record {
-        entry = e;
-        ranges = ranges;
-        spelled = refl;
-        refused = λ may. entry_words h e (sym (makes_refusal e x h cs makes reached.placed) ∙ allowed) (subst (λ (o : Option (List ℕ)). IsSome o) same some) (omega (arith, over, ap (λ (c : Change (List ℕ)). length (words_in (changes h ++ c ∷ []))) change)) may.allowed;
-      },
-      here,
-    )
+-- where nothing more is loaded
+pub none_ahead : (h : History) (loader after : Loaded) → AreLoaded loader (changes h) → after ≡ loader → HasAhead h after
+none_ahead h loader after loads same =
+    let L : Loaded → Type 0 = λ l. AreLoaded l (changes h) in
+    record { ahead = []; allowed = tt; loads = subst (λ (g : History). AreLoaded after (changes g)) (sym (append-nil h)) (subst L (sym same) loads) }
+
+-- ---- a batch
+
+-- a batch that isn't refused
+pub batch_over : {now_marked : Bool} (gate : ℕ) (h : History) (batch : List Act) (cs more : List (Change TextPlace)) (plans others : List StoredPlan) (loader : Loaded)
+    → IsReached gate h cs plans true → IsBatch batch → nat_lt most_batch (sum_by act_length batch) ≡ false → AreMet (h ++ singles batch) more loader
+    → map (mapped pair_of) more ≡ map (mapped pair_of) cs ++ placed_acts (gate + 10) batch → others ≡ plans → now_marked ≡ true → IsGoneOver gate h (spelling (Batch batch)) more others now_marked loader
+batch_over gate h batch cs more plans others loader reached ranges short met pushed same still =
+    let may = batch_may h batch (sym reached.marked_is) short (allowed_behind [] h (singles batch) met.allowed) in
+    record {
+      entry = Batch batch;
+      spelled = refl;
+      reached = record {
+        opens = open_push [] h (Batch batch) reached.opens (record { ranges = ranges; allowed = may; timely = tt });
+        gate_is = omega (arith, reached.gate_is, end_of-push h (Batch batch));
+        placed = placed_batch h cs more batch gate reached.placed reached.gate_is pushed;
+        plans_are = same ∙ reached.plans_are ∙ sym (plans_push h (Batch batch) gate reached.gate_is ∙ append-nil (plans_from 16 h));
+        marked_is = still ∙ reached.marked_is ∙ sym (unmarked_push h (Batch batch) refl);
+      };
+      loads = subst (λ (l : List (Change (List ℕ))). AreLoaded loader l) (sym (batch_changes h batch)) met.loads;
+    }
+
+-- one that isn't marked, or is too long
+pub unmarked_batch : (h : History) (batch : List Act) (marked : Bool) → marked ≡ is_marked h → marked ≡ false → entry_refusal h (Batch batch) ≡ None → ⊥
+unmarked_batch h batch marked is none may = let there : is_marked h ≡ false = sym is ∙ none in let first = (none_found (old_format h) _ may).0 in cc
+
+pub long_texts : (h : History) (batch : List Act) → most_batch < sum_by act_length batch → entry_refusal h (Batch batch) ≡ None → ⊥
+long_texts h batch past may = let over = lt-ltb most_batch (sum_by act_length batch) past in let second = (none_found (long_batch (sum_by act_length batch)) _ (none_found (old_format h) _ may).1).0 in cc
+
+-- one of whose acts is refused, behind those before it
+pub bad_act : (h : History) (early : List Act) (act : Act) (late : List Act) → (entry_refusal (h ++ singles early) (alone act) ≡ None → ⊥) → entry_refusal h (Batch (early ++ act ∷ late)) ≡ None → ⊥
+bad_act h early act late refused may =
+    let E : History → Type 0 = λ g. EachAllowed h g in
+    refused (allowed_behind h (singles early) (alone act ∷ singles late) (subst E (map-append alone early (act ∷ late)) (batch_allowed h (early ++ act ∷ late) may))).0
+
+-- those before it are loaded
+pub acts_ahead : (h : History) (early : List Act) (cs : List (Change TextPlace)) (loader after : Loaded) → AreMet (h ++ singles early) cs loader → after ≡ loader → HasAhead h after
+acts_ahead h early cs loader after met same =
+    let L : Loaded → Type 0 = λ l. AreLoaded l (changes (h ++ singles early)) in
+    record { ahead = singles early; allowed = allowed_behind [] h (singles early) met.allowed; loads = subst L (sym same) met.loads }
 
 -- ---- a plan
 
@@ -295,23 +368,6 @@ all_read tells journal heads reader cs plans loader r none = (
       let before = r.left told bodies same spelled in
       sym (before.1 ∙ ap (λ (l : List (List ℕ)). bodies_of r.history ++ l) (left_none journal before.0 reader.left none before.2.lead) ∙ append-nil (bodies_of r.history)),
 )
-
--- what was met is as it was
-unfoldable pub same_replaying : (tells : Type 0) (journal : List ℕ) (heads : List Head) (reader : BodiesState) (cs others : List (Change TextPlace)) (plans those : List StoredPlan) (marked now_marked : Bool) (loader other : Loaded) → others ≡ cs → those ≡ plans → now_marked ≡ marked → other ≡ loader
-    → IsReplaying tells journal heads reader cs plans marked loader → IsReplaying tells journal heads reader others those now_marked other
-same_replaying tells journal heads reader cs others plans those marked now_marked loader other a b m d r = record {
-  history = r.history;
-  reached = record {
-    opens = r.reached.opens;
-    gate_is = r.reached.gate_is;
-    placed = let P : List (Change TextPlace) → Type 0 = λ l. ArePlaced 16 r.history l in subst P (sym a) r.reached.placed;
-    plans_are = b ∙ r.reached.plans_are;
-    marked_is = m ∙ r.reached.marked_is;
-  };
-  loads = let L : Loaded → Type 0 = λ l. AreLoaded l (changes r.history) in subst L (sym d) r.loads;
-  behind = r.behind;
-  left = r.left;
-}
 
 -- one change more, by its parts
 pub pushed_is : (cs early more : List (Change TextPlace)) (x : Change ℕ) (p : Change TextPlace) → p.doc ≡ x.doc → p.at ≡ x.at → early ≡ cs → more ≡ early ++ p ∷ []

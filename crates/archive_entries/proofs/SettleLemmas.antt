@@ -3,7 +3,7 @@ use Rattle.std.proofs.Common.{◌≡◌, ◌⊎◌, ℕ, ◌+◌, ◌<◌, ◌�
 use Rattle.std.specs.Option.{option_map}
 use Rattle.std.proofs.lemmas.List.{length-map, map-append, drop_more, take_more}
 use Rattle.std.proofs.lemmas.List.Sums.{fold-append}
-use Rattle.std.proofs.lemmas.List.Elements.{All-head, All-tail, All-push}
+use Rattle.std.proofs.lemmas.List.Elements.{All-nil, All-cons, All-head, All-tail, All-append, All-push}
 use Rattle.base_types.specs.declared.posting.Posting.{Posting}
 use Rattle.base_types.specs.declared.time.Time.{Time}
 use Rattle.journal_gates.specs.Records.{front}
@@ -14,19 +14,19 @@ use Rattle.lists_versions.specs.declared.change.Change.{Change}
 use Rattle.plans_kinds.specs.Plans.{IsFitFor}
 use Rattle.journal_entries.specs.Spelling.{spelling, IsEntry}
 use Rattle.journal_entries.specs.declared.entry.Entry.{Entry}
-use Rattle.journal_entries.specs.declared.entry.Entry.TheVariants.{Arrive, Delete, Planned, Format}
+use Rattle.journal_entries.specs.declared.entry.Entry.TheVariants.{Arrive, Delete, Planned, Format, Batch}
 use Rattle.journal_entries.specs.declared.plan.PlanEntry.{PlanEntry}
 use Rattle.lists_versions.specs.Changes.{last_time}
 use Rattle.model_archive.specs.declared.stored.StoredPlan.{StoredPlan}
 use Rattle.model_archive.specs.Histories.{History, changes, end_of}
-use Rattle.model_archive.specs.Legal.{MayCome, EachMayCome, IsLoadable, IsLoadableEntry}
+use Rattle.model_archive.specs.Legal.{MayCome, EachMayCome, EachAllowed, IsLoadable, IsLoadableEntry}
 use Rattle.lists_postings.proofs.Clipping.{one_list_of}
 use Rattle.model_archive.specs.Answers.{frequency_at}
 use Rattle.model_archive.specs.Planning.{IsListUpTo, last_second}
 use Rattle.model_archive.specs.Plans.{IsNoPlan, with_plan, with_entry, live_after, live_plans}
 use Rattle.model_archive.specs.Stands.{bodies_of}
 use Rattle.model_archive.proofs.HistoryLemmas.{come-push, end_of-push, end_of_is}
-use Rattle.model_archive.proofs.LiveLemmas.{list_stays, list_was}
+use Rattle.model_archive.proofs.LiveLemmas.{later_all, list_stays, list_was}
 use Rattle.archive_entries.specs.Replaying.{IsTimely, IsOpen, AreOpen, plans_in, plans_from, IsFitIn, IsFirstUnfit, IsNextBad, IsReplayed, IsBadAmong}
 use Rattle.journal_gates.proofs.HeadLemmas.{length-front, length_heads, row_end}
 use Rattle.archive_entries.proofs.ReplayLemmas.{open_allowed}
@@ -72,6 +72,7 @@ change_may before (Arrive doc at text) change opens = record { ranges = opens.ra
 change_may before (Delete doc at) change opens = record { ranges = opens.ranges; allowed = opens.allowed; planned = tt }
 change_may before (Planned plan) change opens = absurd change
 change_may before Format change opens = record { ranges = opens.ranges; allowed = opens.allowed; planned = tt }
+change_may before (Batch batch) change opens = record { ranges = opens.ranges; allowed = opens.allowed; planned = tt }
 
 -- ---- all of them
 
@@ -83,6 +84,8 @@ settle_all whole before (Delete doc at ∷ h) gate is opens fit =
     let e = Delete doc at in (change_may before e tt opens.0, settle_all whole (before ++ e ∷ []) h (gate + 5 + length (spelling e)) (further whole before h e is) opens.1 fit)
 settle_all whole before (Format ∷ h) gate is opens fit =
     let e = Format in (change_may before e tt opens.0, settle_all whole (before ++ e ∷ []) h (gate + 5 + length (spelling e)) (further whole before h e is) opens.1 fit)
+settle_all whole before (Batch batch ∷ h) gate is opens fit =
+    let e = Batch batch in (change_may before e tt opens.0, settle_all whole (before ++ e ∷ []) h (gate + 5 + length (spelling e)) (further whole before h e is) opens.1 fit)
 settle_all whole before (Planned plan ∷ h) gate is opens fit =
     let then = gate + 5 + length (spelling (Planned plan)) in
     let s : StoredPlan = record { gate = gate; plan = plan } in (
@@ -144,6 +147,10 @@ settle_first whole before (Format ∷ h) gate at is opens loads here unfit =
     let e = Format in
     settle_first whole (before ++ e ∷ []) h (gate + 5 + length (spelling e)) at (further whole before h e is) opens.1 (come-push IsFitFor before e loads (change_may before e tt opens.0))
     (next_gate before e gate here) unfit
+settle_first whole before (Batch batch ∷ h) gate at is opens loads here unfit =
+    let e = Batch batch in
+    settle_first whole (before ++ e ∷ []) h (gate + 5 + length (spelling e)) at (further whole before h e is) opens.1 (come-push IsFitFor before e loads (change_may before e tt opens.0))
+    (next_gate before e gate here) unfit
 settle_first whole before (Planned plan ∷ h) gate at is opens loads here unfit =
     elim (unfit_further whole (record { gate = gate; plan = plan }) (plans_from (gate + 5 + length (spelling (Planned plan))) h) at unfit) [
       | inl on ↦ settle_first whole (before ++ Planned plan ∷ []) h (gate + 5 + length (spelling (Planned plan))) at (further whole before h (Planned plan) is) opens.1
@@ -179,6 +186,61 @@ unfit_among h bodies rest at opens same unfit =
 pub next_among : (h : History) (bodies : List (List ℕ)) (at : ℕ) → AreOpen [] h → All (IsFitIn h) (plans_from 16 h) → IsNextBad h bodies at → IsBadAmong bodies at
 next_among h bodies at opens fit next = record { before = h; loadable = settled h opens fit; next = next }
 
+-- ---- where entries are ahead
+
+-- a plan's horizon lies in the past of all entries
+plans_past : (before h : History) (gate : ℕ) → AreOpen before h → All (λ s. s.plan.horizon.seconds ≤ last_second (before ++ h)) (plans_from gate h)
+plans_past before [] gate opens = All-nil (λ (s : StoredPlan). s.plan.horizon.seconds ≤ last_second (before ++ []))
+plans_past before (e ∷ h) gate opens =
+    let whole = before ++ e ∷ h in
+    let P : StoredPlan → Type 0 = λ s. s.plan.horizon.seconds ≤ last_second whole in
+    let then = gate + 5 + length (spelling e) in
+    let rest = subst (λ (g : History). All (λ (s : StoredPlan). s.plan.horizon.seconds ≤ last_second g) (plans_from then h)) (append_assoc before (e ∷ []) h) (plans_past (before ++ e ∷ []) h then opens.1) in
+    All-append P (plans_in gate e) (plans_from then h) (here e opens.0 (later_all before (e ∷ h) (open_allowed before (e ∷ h) opens)).last) rest
+  where
+    here : (x : Entry) → IsOpen before x → last_second before ≤ last_second (before ++ e ∷ h) → All (λ s. s.plan.horizon.seconds ≤ last_second (before ++ e ∷ h)) (plans_in gate x)
+    here (Planned plan) asked later =
+        let P : StoredPlan → Type 0 = λ s. s.plan.horizon.seconds ≤ last_second (before ++ e ∷ h) in
+        All-cons P (record { gate = gate; plan = plan }) [] (omega (arith, past_of before plan asked.timely, later)) (All-nil P)
+    here (Arrive doc at text) asked later = All-nil (λ (s : StoredPlan). s.plan.horizon.seconds ≤ last_second (before ++ e ∷ h))
+    here (Delete doc at) asked later = All-nil (λ (s : StoredPlan). s.plan.horizon.seconds ≤ last_second (before ++ e ∷ h))
+    here Format asked later = All-nil (λ (s : StoredPlan). s.plan.horizon.seconds ≤ last_second (before ++ e ∷ h))
+    here (Batch batch) asked later = All-nil (λ (s : StoredPlan). s.plan.horizon.seconds ≤ last_second (before ++ e ∷ h))
+
+-- so it is fit with entries ahead as it is without them
+fit_was : (h ahead : History) (s : StoredPlan) → EachAllowed h ahead → s.plan.horizon.seconds ≤ last_second h → IsFitIn (h ++ ahead) s → IsFitIn h s
+fit_was h ahead s allowed past (list, (is, some, fit)) = (list, (list_was h ahead s.plan.word s.plan.horizon.seconds list allowed past is, some, fit))
+
+fit_stays : (h ahead : History) (s : StoredPlan) → EachAllowed h ahead → s.plan.horizon.seconds ≤ last_second h → IsFitIn h s → IsFitIn (h ++ ahead) s
+fit_stays h ahead s allowed past (list, (is, some, fit)) = (list, (list_stays h ahead s.plan.word s.plan.horizon.seconds list allowed past is, some, fit))
+
+all_were : (h ahead : History) (plans : List StoredPlan) → EachAllowed h ahead → All (λ s. s.plan.horizon.seconds ≤ last_second h) plans → All (IsFitIn (h ++ ahead)) plans → All (IsFitIn h) plans
+all_were h ahead [] allowed past fit = All-nil (IsFitIn h)
+all_were h ahead (s ∷ plans) allowed past fit =
+    let P : StoredPlan → Type 0 = λ x. x.plan.horizon.seconds ≤ last_second h in
+    All-cons (IsFitIn h) s plans (fit_was h ahead s allowed (All-head P s plans past) (All-head (IsFitIn (h ++ ahead)) s plans fit))
+    (all_were h ahead plans allowed (All-tail P s plans past) (All-tail (IsFitIn (h ++ ahead)) s plans fit))
+
+first_was : (h ahead : History) (front : List StoredPlan) (s : StoredPlan) (back : List StoredPlan) → EachAllowed h ahead → All (λ s. s.plan.horizon.seconds ≤ last_second h) (front ++ s ∷ back)
+    → All (IsFitIn (h ++ ahead)) front → All (IsFitIn h) front × (s.plan.horizon.seconds ≤ last_second h)
+first_was h ahead [] s back allowed past fit = let P : StoredPlan → Type 0 = λ x. x.plan.horizon.seconds ≤ last_second h in (All-nil (IsFitIn h), All-head P s back past)
+first_was h ahead (f ∷ front) s back allowed past fit =
+    let P : StoredPlan → Type 0 = λ x. x.plan.horizon.seconds ≤ last_second h in
+    let rest = first_was h ahead front s back allowed (All-tail P f (front ++ s ∷ back) past) (All-tail (IsFitIn (h ++ ahead)) f front fit) in
+    (All-cons (IsFitIn h) f front (fit_was h ahead f allowed (All-head P f (front ++ s ∷ back) past) (All-head (IsFitIn (h ++ ahead)) f front fit)) rest.0, rest.1)
+
+unfit_was : (h ahead : History) (plans : List StoredPlan) (at : ℕ) → EachAllowed h ahead → All (λ s. s.plan.horizon.seconds ≤ last_second h) plans → IsFirstUnfit (h ++ ahead) plans at → IsFirstUnfit h plans at
+unfit_was h ahead plans at allowed past unfit =
+    let A : List StoredPlan → Type 0 = λ l. All (λ s. s.plan.horizon.seconds ≤ last_second h) l in
+    let was = first_was h ahead unfit.front unfit.stored unfit.back allowed (subst A unfit.is past) unfit.fit in
+    record { front = unfit.front; stored = unfit.stored; back = unfit.back; is = unfit.is; fit = was.0; unfit = λ fit. unfit.unfit (fit_stays h ahead unfit.stored allowed was.1 fit); at_is = unfit.at_is }
+
+pub unfit_ahead : (h ahead : History) (bodies rest : List (List ℕ)) (at : ℕ) → AreOpen [] h → EachAllowed h ahead → bodies ≡ bodies_of h ++ rest → IsFirstUnfit (h ++ ahead) (plans_from 16 h) at → IsBadAmong bodies at
+unfit_ahead h ahead bodies rest at opens allowed same unfit = unfit_among h bodies rest at opens same (unfit_was h ahead (plans_from 16 h) at allowed (plans_past [] h 16 opens) unfit)
+
+pub next_ahead : (h ahead : History) (bodies : List (List ℕ)) (at : ℕ) → AreOpen [] h → EachAllowed h ahead → All (IsFitIn (h ++ ahead)) (plans_from 16 h) → IsNextBad h bodies at → IsBadAmong bodies at
+next_ahead h ahead bodies at opens allowed fit next = next_among h bodies at opens (all_were h ahead (plans_from 16 h) allowed (plans_past [] h 16 opens) fit) next
+
 -- ---- the live ones
 
 with_plans_in : (gate : ℕ) (live : List StoredPlan) (e : Entry) → with_entry gate live e ≡ fold with_plan live (plans_in gate e)
@@ -186,6 +248,7 @@ with_plans_in gate live (Arrive doc at text) = refl
 with_plans_in gate live (Delete doc at) = refl
 with_plans_in gate live (Planned plan) = refl
 with_plans_in gate live Format = refl
+with_plans_in gate live (Batch batch) = refl
 
 live_folded : (gate : ℕ) (live : List StoredPlan) (h : History) → live_after gate live h ≡ fold with_plan live (plans_from gate h)
 live_folded gate live [] = refl

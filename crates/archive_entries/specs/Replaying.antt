@@ -1,5 +1,5 @@
 -- What a load knows while it goes over the entries.
-use Rattle.std.specs.Prelude.{◌≡◌, ◌⊎◌, ℕ, ◌+◌, ◌<◌, ◌≤◌, Bool, List, [], ◌∷◌, ◌++◌, length, All, Some, None}
+use Rattle.std.specs.Prelude.{◌≡◌, ◌⊎◌, ℕ, ◌+◌, ◌<◌, ◌≤◌, Bool, List, [], ◌∷◌, ◌++◌, length, map, All, Some, None}
 use Rattle.journal_gates.specs.declared.head.Head.{Head}
 use Rattle.journal_gates.specs.Records.{first_gate, gate_bytes, front}
 use Rattle.journal_gates.specs.Heads.{heads_of}
@@ -19,12 +19,13 @@ use Rattle.journal_entries.specs.declared.plan.PlanEntry.{PlanEntry}
 use Rattle.model_archive.specs.Histories as histories
 use Rattle.model_archive.specs.declared.stored.StoredPlan.{StoredPlan}
 use Rattle.model_archive.specs.Histories.{History, end_of, entry_refusal, is_marked}
-use Rattle.model_archive.specs.Legal.{IsLoadable}
+use Rattle.model_archive.specs.Legal.{EachAllowed, IsLoadable}
 use Rattle.model_archive.specs.Planning.{IsListUpTo}
 use Rattle.model_archive.specs.Plans.{live_plans}
 use Rattle.lists_index.specs.Loads.{Loaded, AreLoaded}
 use Rattle.model_archive.specs.Stands.{bodies_of, IsMisspelled, IsIllegal}
 use Rattle.archive_entries.specs.Places.{ArePlaced}
+use Rattle.archive_entries.specs.Texts.{bare}
 
 -- ---- entries that are gone over, before the lists are there with which plans are tested
 
@@ -81,6 +82,18 @@ pub record IsReached (gate : ℕ) (history : History) (changes : List (Change Te
   pub plans_are : plans ≡ plans_from first_gate history
   pub marked_is : marked ≡ is_marked history
 
+-- what a load has of a history's changes: nothing refuses its entries, these are the changes but for what they hold, and the texts are loaded
+pub record AreMet (history : History) (changes : List (Change TextPlace)) (loader : Loaded) : Type 0 where
+  pub allowed : EachAllowed [] history
+  pub same : map bare changes ≡ map bare (histories.changes history)
+  pub loads : AreLoaded loader (histories.changes history)
+
+-- the texts of a history are loaded, and perhaps those of entries behind it, which nothing refuses: the first acts of a batch that is refused
+pub record HasAhead (history : History) (loader : Loaded) : Type 0 where
+  pub ahead : List Entry
+  pub allowed : EachAllowed history ahead
+  pub loads : AreLoaded loader (histories.changes (history ++ ahead))
+
 -- this body spells an entry that may come behind a history, as far as can be told; these are the changes and the plans with its own, and its text
 -- is loaded
 pub record IsGoneOver (gate : ℕ) (history : History) (body : List ℕ) (changes : List (Change TextPlace)) (plans : List StoredPlan) (marked : Bool) (loader : Loaded) : Type 0 where
@@ -108,6 +121,14 @@ pub record IsNextBad (before : History) (bodies : List (List ℕ)) (at : ℕ) : 
   pub rest : List (List ℕ)
   pub split : bodies ≡ bodies_of before ++ body ∷ rest
   pub fault : IsFaulty (length (front (bodies_of before))) before body at
+
+-- Entries that were gone over up to the first body that by itself is misspelled or illegal, which shows at this place.
+pub record IsStopped (tells : Type 0) (journal : List ℕ) (heads : List Head) (plans : List StoredPlan) (loader : Loaded) (at : ℕ) : Type 0 where
+  pub history : History
+  pub opens : AreOpen [] history
+  pub plans_are : plans ≡ plans_from first_gate history
+  pub has : HasAhead history loader
+  pub next : tells → (bodies : List (List ℕ)) → heads ≡ heads_of first_gate bodies → Spells journal bodies → IsNextBad history bodies at
 
 -- ---- a history that is loaded
 

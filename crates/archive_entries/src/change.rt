@@ -8,6 +8,12 @@ use lists_versions::{Change, Directory, VersionRefusal};
 /// Where the text of an arrival begins in its spelling, behind the tag, the document and the time.
 pub const TEXT_AT: u64 = 13;
 
+/// Where the first act of a batch begins in its spelling, behind the tag and how many acts there are.
+pub const ACTS_AT: u64 = 5;
+
+/// Where the text of an act begins behind the place of the act's length, which has four bytes.
+pub const ACT_TEXT_AT: u64 = 4 + TEXT_AT;
+
 /// Whether a change may come next, or the first cause why not. It costs one look-up.
 pub(crate) fn may_come(directory: &Directory, change: Change<u32>) -> Result<(), VersionRefusal>
     ensures { MatchResult result (λ _. change_refusal change directory.now.changes ≡ None) (λ why. change_refusal change directory.now.changes ≡ Some why) }

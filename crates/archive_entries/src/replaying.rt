@@ -1,28 +1,33 @@
 //! Going over the entries of a loaded journal.
-ghost use Rattle.std.specs.Prelude.{◌≡◌, ◌↔◌, ◌+◌, ◌<◌, ◌≤◌, ◌^◌, [], ℕ, List, length, option_map, All, false, Some, None, IsTrue, IfOk, OnOk, IsErrOf};
+ghost use Rattle.std.specs.Prelude.{◌≡◌, ◌↔◌, ◌+◌, ◌<◌, ◌≤◌, ◌^◌, [], ◌∷◌, ◌++◌, ℕ, List, Option, length, map, sum_by, option_map, All, false, Ok, Some, None, IsTrue, IfOk, OnOk, IsErrOf};
 ghost use Rattle.machine_model.specs.Causes.{Rose};
 ghost use Rattle.machine_model.specs.Calls.{OnlyReads};
 ghost use Rattle.journal_gates.specs.Records.{first_gate, gate_bytes};
 ghost use Rattle.journal_gates.specs.Heads.{AreInRow, heads_of};
 ghost use Rattle.journal_gates.specs.Spelled.{Spells};
 ghost use Rattle.journal_gates.specs.Bodies.{BodiesState};
+ghost use Rattle.base_types.specs.declared.text_place.TextPlace.{TextPlace};
+ghost use Rattle.lists_versions.specs.Changes.{mapped};
+ghost use Rattle.journal_entries.specs.Acts.{act_length, alone, IsAct, IsBatch};
 ghost use Rattle.journal_entries.specs.Spelling.{IsEntry, spelling};
 ghost use Rattle.journal_entries.specs.declared.entry.Entry.{Entry as PlainEntry};
 ghost use Rattle.journal_entries.specs.declared.entry.Entry.TheVariants as entries;
-ghost use Rattle.model_archive.specs.Histories.{History, changes, end_of, is_marked};
-ghost use Rattle.archive_entries.specs.Entries.{Makes, text_of};
+ghost use Rattle.model_archive.specs.Histories.{History, changes, end_of, entry_refusal, is_marked};
+ghost use Rattle.archive_entries.specs.Entries.{IsHeld, Makes, text_of};
+ghost use Rattle.archive_entries.specs.Places.{pair_of, placed_act};
 ghost use Rattle.lists_index.specs.Indexes.{state_of, Indexes};
 ghost use Rattle.lists_index.specs.Loads.{Loads, loaded};
 ghost use Rattle.model_archive.specs.Stands.{bodies_of};
 ghost use Rattle.archive_entries.specs.Live.{EachOnce};
-ghost use Rattle.archive_entries.specs.Replaying.{IsReached, IsGoneOver, IsFaulty, IsReplayed, IsReplaying, IsNextBad, IsBadAmong, IsFitIn, IsFirstUnfit, IsTimely};
+ghost use Rattle.archive_entries.specs.Replaying.{AreMet, HasAhead, IsReached, IsGoneOver, IsFaulty, IsReplayed, IsReplaying, IsStopped, IsBadAmong, IsFitIn, IsFirstUnfit, IsTimely};
 
-use crate::change::{TEXT_AT, may_come, note, placed};
+use crate::change::{ACT_TEXT_AT, ACTS_AT, TEXT_AT, may_come, note, placed};
 use crate::error::LoadError;
 use crate::lists::{are_many, list_up_to};
 use crate::live::live_of;
+use base_commands::MOST_BATCH_BYTES;
 use base_types::Time;
-use journal_entries::{CodecError, Entry, PlanEntry, decode};
+use journal_entries::{Act, CodecError, Entry, PlanEntry, decode};
 use journal_gates::{Head, Journal};
 use lists_index::{Index, Loader};
 use lists_versions::{Change, Directory};
@@ -142,9 +147,10 @@ fn go_over<D: Disk>(
     ensures unread { D.disk_tells → (D.disk disk.new).bytes_read.pages ≡ (D.disk disk.old).bytes_read.pages }
     ensures failed { IsErrOf result LoadError.Failed → Rose (D.disk disk.old).faults (D.disk disk.new).faults }
     ensures fair { (at : ℕ) → IsErrOf result (LoadError.NotArchive at) → ⊥ }
-    ensures reached { IfOk result (λ fault. (reader : BodiesState) × ((r : IsReplaying D.disk_tells (D.disk disk.old).holds.journal heads.now reader met.new.directory.changes met.new.plans.items met.new.marked (loaded met.new.loader))
-        × (fault ≡ None → reader.left ≡ [])
-        × ((at : ℕ) → fault ≡ Some at → D.disk_tells → (bodies : List (List ℕ)) → heads.now ≡ heads_of first_gate bodies → Spells (D.disk disk.old).holds.journal bodies → IsNextBad r.history bodies at))) }
+    ensures whole { result ≡ Ok None → (reader : BodiesState) × IsReplaying D.disk_tells (D.disk disk.old).holds.journal heads.now reader met.new.directory.changes met.new.plans.items met.new.marked (loaded met.new.loader)
+        × (reader.left ≡ []) }
+    ensures loads { IfOk result (λ _. (h : History) × Loads met.new.loader (changes h)) }
+    ensures stopped { (at : ℕ) → result ≡ Ok (Some at) → IsStopped D.disk_tells (D.disk disk.old).holds.journal heads.now met.new.plans.items (loaded met.new.loader) at }
 {
     let mut bodies = journal.bodies(alloc, heads);
     while let Some(head) = bodies.next(disk)? {
@@ -167,8 +173,9 @@ fn apply(alloc: Global, met: &mut Met, head: &Head, body: &[u8]) -> Result<(), L
         OnOk result (IsGoneOver head.now.gate h body.now met.new.directory.changes met.new.plans.items met.new.marked (loaded met.new.loader)) }
     ensures bad { (h : History) → IsReached head.now.gate h met.old.directory.changes met.old.plans.items met.old.marked → Loads met.old.loader (changes h) →
         (at : ℕ) → IsErrOf result (LoadError.NotArchive at) → IsFaulty head.now.gate h body.now at }
-    // Where it isn't added, what was met is as it was.
-    ensures kept { (at : ℕ) → IsErrOf result (LoadError.NotArchive at) → (met.new.directory.changes ≡ met.old.directory.changes) × (met.new.plans.items ≡ met.old.plans.items) × (met.new.marked ≡ met.old.marked) × (loaded met.new.loader ≡ loaded met.old.loader) }
+    // Where it isn't added, nothing but the first acts of a batch is.
+    ensures left { (h : History) → IsReached head.now.gate h met.old.directory.changes met.old.plans.items met.old.marked → Loads met.old.loader (changes h) →
+        (at : ℕ) → IsErrOf result (LoadError.NotArchive at) → (met.new.plans.items ≡ met.old.plans.items) × HasAhead h (loaded met.new.loader) }
 {
     match decode(alloc, body) {
         Ok(entry) => apply_entry(alloc, met, head, entry),
@@ -188,7 +195,9 @@ fn apply_entry(alloc: Global, met: &mut Met, head: &Head, entry: Entry) -> Resul
         OnOk result (IsGoneOver head.now.gate h (spelling entry) met.new.directory.changes met.new.plans.items met.new.marked (loaded met.new.loader)) }
     ensures bad { (h : History) → IsReached head.now.gate h met.old.directory.changes met.old.plans.items met.old.marked → Loads met.old.loader (changes h) →
         (at : ℕ) → IsErrOf result (LoadError.NotArchive at) → IsFaulty head.now.gate h (spelling entry) at }
-    ensures kept { (at : ℕ) → IsErrOf result (LoadError.NotArchive at) → (met.new.directory.changes ≡ met.old.directory.changes) × (met.new.plans.items ≡ met.old.plans.items) × (met.new.marked ≡ met.old.marked) × (loaded met.new.loader ≡ loaded met.old.loader) }
+    // Where it isn't added, nothing but the first acts of a batch is.
+    ensures left { (h : History) → IsReached head.now.gate h met.old.directory.changes met.old.plans.items met.old.marked → Loads met.old.loader (changes h) →
+        (at : ℕ) → IsErrOf result (LoadError.NotArchive at) → (met.new.plans.items ≡ met.old.plans.items) × HasAhead h (loaded met.new.loader) }
 {
     match entry {
         Entry::Arrive { doc, at, text } => {
@@ -210,6 +219,7 @@ fn apply_entry(alloc: Global, met: &mut Met, head: &Head, entry: Entry) -> Resul
         }
         Entry::Planned(plan) => apply_plan(met, head, plan),
         Entry::Format => apply_mark(met, head),
+        Entry::Batch(acts) => apply_batch(alloc, met, head, acts.as_slice()),
     }
 }
 
@@ -233,17 +243,116 @@ fn apply_change(
         (at : ℕ) → IsErrOf result (LoadError.NotArchive at) → IsFaulty head.now.gate h (spelling entry) at }
     ensures kept { (at : ℕ) → IsErrOf result (LoadError.NotArchive at) → (met.new.directory.changes ≡ met.old.directory.changes) × (met.new.plans.items ≡ met.old.plans.items) × (met.new.marked ≡ met.old.marked) × (loaded met.new.loader ≡ loaded met.old.loader) }
 {
+    add_change(alloc, met, head.gate, head.body + TEXT_AT, change, text)
+}
+
+/// Adds the acts of a batch, in order.
+fn apply_batch(alloc: Global, met: &mut Met, head: &Head, acts: &[Act]) -> Result<(), LoadError>
+    requires place { head.now.body ≡ head.now.gate + gate_bytes }
+    requires within { head.now.body + head.now.bytes < 2 ^ 40 }
+    requires ranges { IsBatch acts.now }
+    requires long { length (spelling (entries.Batch acts.now)) ≡ head.now.bytes }
+    ensures fair { IsErrOf result LoadError.Failed → ⊥ }
+    ensures more { (h : History) → IsReached head.now.gate h met.old.directory.changes met.old.plans.items met.old.marked → Loads met.old.loader (changes h) →
+        OnOk result (IsGoneOver head.now.gate h (spelling (entries.Batch acts.now)) met.new.directory.changes met.new.plans.items met.new.marked (loaded met.new.loader)) }
+    ensures bad { (h : History) → IsReached head.now.gate h met.old.directory.changes met.old.plans.items met.old.marked → Loads met.old.loader (changes h) →
+        (at : ℕ) → IsErrOf result (LoadError.NotArchive at) → IsFaulty head.now.gate h (spelling (entries.Batch acts.now)) at }
+    ensures left { (h : History) → IsReached head.now.gate h met.old.directory.changes met.old.plans.items met.old.marked → Loads met.old.loader (changes h) →
+        (at : ℕ) → IsErrOf result (LoadError.NotArchive at) → (met.new.plans.items ≡ met.old.plans.items) × HasAhead h (loaded met.new.loader) }
+{
+    if !met.marked || texts_bytes(acts) > MOST_BATCH_BYTES {
+        return Err(LoadError::NotArchive { at: head.gate });
+    }
+    let mut at = head.body + ACTS_AT;
+    for act in acts {
+        apply_act(alloc, met, head.gate, at, act)?;
+        at += act.spelled_bytes();
+    }
+    Ok(())
+}
+
+/// How many bytes the texts of acts have together.
+fn texts_bytes(acts: &[Act]) -> u64
+    requires { IsBatch acts.now }
+    ensures { result ≡ sum_by act_length acts.now }
+{
+    let mut bytes = 0;
+    for act in acts {
+        bytes += act.text_bytes();
+    }
+    bytes
+}
+
+/// Adds an act of a batch. Its length is at this place of the journal.
+fn apply_act(alloc: Global, met: &mut Met, gate: u64, at: u64, act: &Act) -> Result<(), LoadError>
+    requires within { at < 2 ^ 40 }
+    requires ranges { IsAct act.now }
+    ensures fair { IsErrOf result LoadError.Failed → ⊥ }
+    ensures more { (h : History) → AreMet h met.old.directory.changes (loaded met.old.loader) →
+        OnOk result ((entry_refusal h (alone act.now) ≡ None) × AreMet (h ++ alone act.now ∷ []) met.new.directory.changes (loaded met.new.loader)) }
+    ensures placed { OnOk result (map (mapped pair_of) met.new.directory.changes ≡ map (mapped pair_of) met.old.directory.changes ++ placed_act at act.now ∷ []) }
+    ensures bad { (h : History) → AreMet h met.old.directory.changes (loaded met.old.loader) →
+        (place : ℕ) → IsErrOf result (LoadError.NotArchive place) → (place ≡ gate) × (entry_refusal h (alone act.now) ≡ None → ⊥) }
+    ensures others { (met.new.plans.items ≡ met.old.plans.items) × (met.new.marked ≡ met.old.marked) }
+    ensures kept { (place : ℕ) → IsErrOf result (LoadError.NotArchive place) → loaded met.new.loader ≡ loaded met.old.loader }
+{
+    match act {
+        Act::Arrive {
+            doc,
+            at: time,
+            text,
+        } => {
+            let text = text.as_str();
+            let change = Change {
+                doc: *doc,
+                at: *time,
+                held: Some(text.len() as u32),
+            };
+            add_change(alloc, met, gate, at + ACT_TEXT_AT, change, Some(text))
+        }
+        Act::Delete { doc, at: time } => {
+            let change = Change {
+                doc: *doc,
+                at: *time,
+                held: None,
+            };
+            add_change(alloc, met, gate, at + ACT_TEXT_AT, change, None)
+        }
+    }
+}
+
+/// Adds a change of a document. Its text, if it has one, lies at this place of the journal; the gate of its
+/// entry at that one.
+fn add_change(
+    alloc: Global,
+    met: &mut Met,
+    gate: u64,
+    text_at: u64,
+    change: Change<u32>,
+    text: Option<&str>,
+) -> Result<(), LoadError>
+    requires makes { (entry : PlainEntry) × IsEntry entry × Makes entry change × (option_map (λ t. t.now) text ≡ text_of entry) }
+    ensures fair { IsErrOf result LoadError.Failed → ⊥ }
+    ensures more { (h : History) (entry : PlainEntry) → AreMet h met.old.directory.changes (loaded met.old.loader) → Makes entry change → option_map (λ t. t.now) text.entry ≡ text_of entry →
+        OnOk result ((entry_refusal h entry ≡ None) × AreMet (h ++ entry ∷ []) met.new.directory.changes (loaded met.new.loader)) }
+    ensures placed { OnOk result ((held : Option TextPlace) × IsHeld text_at change.held held
+        × (met.new.directory.changes ≡ met.old.directory.changes ++ record { doc = change.doc; at = change.at; held = held } ∷ [])) }
+    ensures bad { (h : History) (entry : PlainEntry) → AreMet h met.old.directory.changes (loaded met.old.loader) → Makes entry change → option_map (λ t. t.now) text.entry ≡ text_of entry →
+        (at : ℕ) → IsErrOf result (LoadError.NotArchive at) → (at ≡ gate) × (entry_refusal h entry ≡ None → ⊥) }
+    ensures others { (met.new.plans.items ≡ met.old.plans.items) × (met.new.marked ≡ met.old.marked) }
+    ensures kept { (at : ℕ) → IsErrOf result (LoadError.NotArchive at) → (met.new.directory.changes ≡ met.old.directory.changes) × (loaded met.new.loader ≡ loaded met.old.loader) }
+{
     match may_come(&met.directory, change) {
         Ok(()) => {}
-        Err(_) => return Err(LoadError::NotArchive { at: head.gate }),
+        Err(_) => return Err(LoadError::NotArchive { at: gate }),
     }
     match met.loader.add(alloc, change.doc, change.at, text) {
         Ok(()) => {}
-        Err(NumberError::Full) => return Err(LoadError::NotArchive { at: head.gate }),
+        Err(NumberError::Full) => return Err(LoadError::NotArchive { at: gate }),
         Err(NumberError::Memory) => return Err(LoadError::Memory),
     }
     met.directory.reserve(change.doc)?;
-    note(&mut met.directory, placed(change, head.body + TEXT_AT));
+    note(&mut met.directory, placed(change, text_at));
     Ok(())
 }
 

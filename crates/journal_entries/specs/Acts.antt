@@ -24,6 +24,11 @@ abbrev pub act_spelling : Act → List ℕ
 act_spelling (acts.Arrive doc at text) = 1 ∷ (to_be_bytes w32 doc.0 ++ (to_be_bytes w64 at.seconds ++ text))
 act_spelling (acts.Delete doc at) = 2 ∷ (to_be_bytes w32 doc.0 ++ to_be_bytes w64 at.seconds)
 
+-- how many bytes the text of an act has
+abbrev pub act_length : Act → ℕ
+act_length (acts.Arrive doc at text) = length text
+act_length (acts.Delete doc at) = 0
+
 -- an act behind how many bytes it has
 abbrev pub act_bytes : Act → List ℕ
 act_bytes act = to_be_bytes w32 (length (act_spelling act)) ++ act_spelling act

@@ -1,5 +1,5 @@
 -- A batch and its acts as entries of their own.
-use Rattle.std.specs.Prelude.{◌≡◌, ℕ, ◌+◌, List, [], ◌∷◌, ◌++◌, length, map, Option, Some, None, refl}
+use Rattle.std.specs.Prelude.{◌≡◌, ℕ, ◌+◌, nat_lt, Bool, true, false, not, List, [], ◌∷◌, ◌++◌, length, map, sum_by, Option, Some, None, refl}
 use Rattle.std.specs.List.{flat_map}
 use Rattle.std.specs.Option.{option_map}
 use Rattle.std.proofs.Common.{sym, ap, subst, ◌∙◌, arith, append_assoc}
@@ -7,19 +7,16 @@ use Rattle.std.proofs.lemmas.List.{append-nil}
 use Rattle.std.proofs.lemmas.List.Concat.{flat_map-append}
 use Rattle.text_words.specs.Words.{distinct}
 use Rattle.lists_versions.specs.declared.change.Change.{Change}
-use Rattle.lists_versions.specs.Tests.{first_of}
+use Rattle.lists_versions.specs.Tests.{first_of, when}
 use Rattle.journal_entries.specs.declared.act.Act.{Act}
 use Rattle.journal_entries.specs.declared.act.Act.TheVariants as batched
 use Rattle.journal_entries.specs.declared.entry.Entry.{Entry}
 use Rattle.journal_entries.specs.declared.entry.Entry.TheVariants.{Arrive, Delete, Planned, Format, Batch}
-use Rattle.journal_entries.specs.Acts.{alone}
+use Rattle.journal_entries.specs.Acts.{act_length, alone}
 use Rattle.model_archive.specs.declared.refusal.Refusal.{Refusal}
-use Rattle.model_archive.specs.Histories.{History, acts, changes, change_by, act_keys, entry_keys, vocabulary, singles, act_refusal, acts_refusal, entry_refusal, old_format, long_batch}
-
--- nothing refuses these entries behind those before them
-abbrev pub EachAllowed : History → List Entry → Type 0
-EachAllowed before [] = Unit {0}
-EachAllowed before (e ∷ entries) = (entry_refusal before e ≡ None) × EachAllowed (before ++ e ∷ []) entries
+use Rattle.model_archive.specs.declared.refusal.Refusal.TheVariants.{BatchTooLong, OldFormat}
+use Rattle.model_archive.specs.Legal.{EachAllowed}
+use Rattle.model_archive.specs.Histories.{History, acts, changes, change_by, act_keys, entry_keys, vocabulary, singles, act_refusal, acts_refusal, entry_refusal, is_marked, old_format, long_batch, most_batch}
 
 -- where no test finds a cause, the first finds none, nor do the others
 pub none_found : {W : Type 0} (o : Option W) (tests : List (Option W)) → first_of (o ∷ tests) ≡ None → (o ≡ None) × (first_of tests ≡ None)
@@ -70,3 +67,23 @@ batch_allowed h batch none =
     let one = none_found (old_format h) _ none in
     let two = none_found _ (acts_refusal h batch ∷ []) one.1 in
     acts_allowed h batch (none_found (acts_refusal h batch) [] two.1).0
+
+-- and a batch whose acts nothing refuses one by one is refused by nothing
+acts_may : (h : History) (batch : List Act) → EachAllowed h (singles batch) → acts_refusal h batch ≡ None
+acts_may h [] allowed = refl
+acts_may h (a ∷ batch) allowed =
+    ap (λ (o : Option Refusal). first_of (o ∷ acts_refusal (h ++ alone a ∷ []) batch ∷ [])) (sym (alone_refusal h a) ∙ allowed.0)
+    ∙ ap (λ (o : Option Refusal). first_of (o ∷ [])) (acts_may (h ++ alone a ∷ []) batch allowed.1)
+
+pub batch_may : (h : History) (batch : List Act) → is_marked h ≡ true → nat_lt most_batch (sum_by act_length batch) ≡ false → EachAllowed h (singles batch) → entry_refusal h (Batch batch) ≡ None
+batch_may h batch marked short allowed =
+    ap (λ (b : Bool). first_of (when (not b) OldFormat ∷ long_batch (sum_by act_length batch) ∷ acts_refusal h batch ∷ [])) marked
+    ∙ ap (λ (b : Bool). first_of (when b (BatchTooLong most_batch) ∷ acts_refusal h batch ∷ [])) short
+    ∙ ap (λ (o : Option Refusal). first_of (o ∷ [])) (acts_may h batch allowed)
+
+-- entries behind others
+pub allowed_behind : (before h more : History) → EachAllowed before (h ++ more) → EachAllowed (before ++ h) more
+allowed_behind before [] more allowed = let P : History → Type 0 = λ g. EachAllowed g more in subst P (sym (append-nil before)) allowed
+allowed_behind before (e ∷ h) more allowed =
+    let P : History → Type 0 = λ g. EachAllowed g more in
+    subst P (append_assoc before (e ∷ []) h) (allowed_behind (before ++ e ∷ []) h more allowed.1)

@@ -29,10 +29,10 @@ use Rattle.model_archive.specs.declared.stored.StoredPlan.{StoredPlan}
 use Rattle.model_archive.specs.Histories.{History, changes, singles, entry_refusal, full_words, end_of}
 use Rattle.model_archive.specs.Answers.{frequency_at}
 use Rattle.model_archive.specs.Planning.{last_second, IsListUpTo}
-use Rattle.model_archive.specs.Legal.{MayBePlanned, MayCome, EachMayCome}
+use Rattle.model_archive.specs.Legal.{MayBePlanned, MayCome, EachMayCome, EachAllowed}
 use Rattle.model_archive.specs.Plans.{is_another, with_entry, live_after, live_plans}
 use Rattle.model_archive.proofs.HistoryLemmas.{changes-push}
-use Rattle.model_archive.proofs.BatchLemmas.{none_found, none_mapped, EachAllowed, batch_changes, batch_allowed}
+use Rattle.model_archive.proofs.BatchLemmas.{none_found, none_mapped, batch_changes, batch_allowed}
 
 -- a time that isn't back lies at or behind the last one
 not_back : (at : Time) (last : Option Time) → option_and_then (λ (l : Time). when (nat_lt at.seconds l.seconds) (TimeBack l)) last ≡ None

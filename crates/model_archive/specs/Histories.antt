@@ -13,7 +13,7 @@ use Rattle.lists_versions.specs.Changes.{held_at, documents}
 use Rattle.lists_versions.specs.Refusals.{arrive_refusal, delete_refusal}
 use Rattle.lists_versions.specs.Tests.{first_of, when}
 use Rattle.journal_entries.specs.Spelling.{spelling}
-use Rattle.journal_entries.specs.Acts.{alone}
+use Rattle.journal_entries.specs.Acts.{act_length, alone}
 use Rattle.journal_entries.specs.declared.act.Act.{Act}
 use Rattle.journal_entries.specs.declared.act.Act.TheVariants as batched
 use Rattle.journal_entries.specs.declared.entry.Entry.{Entry}
@@ -92,11 +92,6 @@ most_batch = 16777216
 -- the texts of a batch have together more bytes than they may
 abbrev pub long_batch : ℕ → Option Refusal
 long_batch bytes = when (nat_lt most_batch bytes) (refusals.BatchTooLong most_batch)
-
--- how many bytes the text of an act has
-abbrev pub act_length : Act → ℕ
-act_length (batched.Arrive doc at text) = length text
-act_length (batched.Delete doc at) = 0
 
 -- why an entry may not come after a history: for a change and a batch the first cause in order; for the mark that there is one; for a plan there is
 -- no cause (what is asked of it is in Legal)

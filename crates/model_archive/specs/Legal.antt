@@ -35,6 +35,11 @@ abbrev pub EachMayCome : Asks → History → List Entry → Type 0
 EachMayCome Good before [] = Unit {0}
 EachMayCome Good before (entry ∷ entries) = MayCome Good before entry × EachMayCome Good (before ++ entry ∷ []) entries
 
+-- nothing refuses each of these entries after a history and the entries before it
+abbrev pub EachAllowed : History → List Entry → Type 0
+EachAllowed before [] = Unit {0}
+EachAllowed before (entry ∷ entries) = (entry_refusal before entry ≡ None) × EachAllowed (before ++ entry ∷ []) entries
+
 -- an entry is legal after a history: a plan is what its kind promises
 abbrev pub IsLegalEntry : History → Entry → Type 0
 IsLegalEntry before entry = MayCome IsGoodPlan before entry

@@ -14,9 +14,10 @@ use Rattle.archive_entries.proofs.SettleLemmas.{settled, unfit_among, next_among
 use Rattle.archive_entries.proofs.replaying.replay.Given.{Over}
 use Rattle.archive_entries.proofs.replaying.replay.Goals as goal
 
+-- what was gone over: whole, or up to a fault
 pub returns-in-Some-clause-bad : goal.returns-in-Some-clause-bad
 returns-in-Some-clause-bad g c = λ tells bodies heads spelled at is.
-    let r = c.in_ok-fault.ensures.reached in
+    let r = c.in_ok-fault.ensures in
     let all = r.1.0 in
     let U : List StoredPlan → Type 0 = λ l. IsFirstUnfit all.history l c.in-Some.at in
     let unfit = c.in_ok-at.ensures.first c.in-Some.at c.in-Some.is all.history (c.in_ok-index.ensures (histories.changes all.history) all.loads) in
