@@ -6,3 +6,4 @@ mod ActLemmas
 mod ReplayLemmas
 mod SettleLemmas
 mod PrepareLemmas
+mod BatchingLemmas

@@ -13,7 +13,7 @@ use Rattle.base_types.specs.declared.time.Time.{Time}
 use Rattle.base_types.specs.declared.text_place.TextPlace.{TextPlace}
 use Rattle.lists_versions.specs.declared.change.Change.{Change}
 use Rattle.lists_versions.specs.declared.refusal.VersionRefusal.{VersionRefusal}
-use Rattle.lists_versions.specs.Refusals.{arrive_refusal, delete_refusal}
+use Rattle.lists_versions.specs.Refusals.{arrive_refusal, change_refusal, delete_refusal}
 use Rattle.journal_entries.specs.Acts.{act_length, alone, IsBatch}
 use Rattle.journal_entries.specs.declared.act.Act.{Act}
 use Rattle.journal_entries.specs.Spelling.{spelling, IsEntry}
@@ -45,7 +45,7 @@ use Rattle.model_archive.specs.Stands.{bodies_of}
 use Rattle.model_archive.proofs.HistoryLemmas.{bodies_of-push, changes-push, end_of-push, end_of_is, marked_push, unmarked_push}
 use Rattle.archive_entries.specs.Places.{ArePlaced, pair_of, placed_acts}
 use Rattle.model_archive.proofs.RefusalLemmas.{arrival-refused, arrival-words, when_false}
-use Rattle.archive_entries.specs.Entries.{IsChange, Makes, IsHeld, change_refusal, text_of}
+use Rattle.archive_entries.specs.Entries.{IsChange, Makes, IsHeld, text_of}
 use Rattle.archive_entries.proofs.IndexLemmas.{change_of, changes_marked, changes_still, makes_change, makes_is_change, takes_change, words_full, words_within}
 use Rattle.archive_entries.specs.Replaying.{IsTimely, IfTimely, IsOpen, AreOpen, plans_in, plans_from, IsReached, AreMet, HasAhead, IsGoneOver, IsFaulty, IsReplaying, IsNextBad}
 use Rattle.archive_entries.proofs.PlaceLemmas.{acts_push, bare_arrive_refusal, bare_changes, bare_delete_refusal, makes_bare, placed_batch, placed_mark, placed_more, placed_plan}

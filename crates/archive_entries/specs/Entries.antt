@@ -5,8 +5,6 @@ use Rattle.base_types.specs.declared.ids.DocId.{DocId}
 use Rattle.base_types.specs.declared.time.Time.{Time}
 use Rattle.base_types.specs.declared.text_place.TextPlace.{TextPlace}
 use Rattle.lists_versions.specs.declared.change.Change.{Change}
-use Rattle.lists_versions.specs.declared.refusal.VersionRefusal.{VersionRefusal}
-use Rattle.lists_versions.specs.Refusals.{arrive_refusal, delete_refusal}
 use Rattle.lists_versions.specs.Tests.{first_of}
 use Rattle.journal_entries.specs.Spelling.{spelling}
 use Rattle.journal_entries.specs.declared.entry.Entry.{Entry}
@@ -27,7 +25,7 @@ IsChange (Arrive doc at text) = Unit {0}
 IsChange (Delete doc at) = Unit {0}
 IsChange other = ⊥
 
--- the change that an entry makes, with the length of its text; a plan and the mark make none
+-- the change that an entry makes, with the length of its text; a plan, the mark and a batch make none
 abbrev pub Makes : Entry → Change ℕ → Type 0
 Makes (Arrive doc at text) change = (doc ≡ change.doc) × (at ≡ change.at) × (change.held ≡ Some (length text))
 Makes (Delete doc at) change = (doc ≡ change.doc) × (at ≡ change.at) × (change.held ≡ None)
@@ -51,14 +49,6 @@ text_of other = None
 -- what is held of a text of so many bytes that lies at this place, or of none
 abbrev pub IsHeld : ℕ → Option ℕ → Option TextPlace → Type 0
 IsHeld at bytes held = option_map pair_of held ≡ option_map (λ n. (at, n)) bytes
-
--- why a change may not come after others: an arrival, of whose text something is held, or a deletion
-abbrev pub refusal_by : {A B : Type 0} → Option A → DocId → Time → List (Change B) → Option VersionRefusal
-refusal_by (Some held) doc at changes = arrive_refusal doc at changes
-refusal_by None doc at changes = delete_refusal doc at changes
-
-abbrev pub change_refusal : {A B : Type 0} → Change A → List (Change B) → Option VersionRefusal
-change_refusal change changes = refusal_by change.held change.doc change.at changes
 
 -- an entry may come next after a history, makes this change, and has this spelling
 pub record IsNext (history : History) (entry : Entry) (change : Change ℕ) (body : List ℕ) : Type 0 where

@@ -1,6 +1,7 @@
 //! A change of a document, on its way from an entry to the directory.
 ghost use Rattle.std.specs.Prelude.{◌≡◌, ◌+◌, ◌<◌, ◌≤◌, ◌++◌, [], ◌∷◌, Some, None, MatchResult};
-ghost use Rattle.archive_entries.specs.Entries.{IsHeld, change_refusal};
+ghost use Rattle.lists_versions.specs.Refusals.{change_refusal};
+ghost use Rattle.archive_entries.specs.Entries.{IsHeld};
 
 use base_types::TextPlace;
 use lists_versions::{Change, Directory, VersionRefusal};
@@ -51,7 +52,8 @@ fn place_of(at: u64, bytes: Option<u32>) -> Option<TextPlace>
 pub fn note(directory: &mut Directory, change: Change<TextPlace>)
     requires allowed { change_refusal change directory.old.changes ≡ None }
     requires room { 1 ≤ directory.old.room }
-    ensures { directory.new.changes ≡ directory.old.changes ++ change ∷ [] }
+    ensures changes { directory.new.changes ≡ directory.old.changes ++ change ∷ [] }
+    ensures room { directory.old.room ≤ directory.new.room + 1 }
 {
     match change.held {
         Some(text) => directory.arrive(change.doc, change.at, text),

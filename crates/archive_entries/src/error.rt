@@ -1,5 +1,6 @@
 //! Why a journal was not gone over, or not read, and why what needs no disk was not done.
 ghost use Rattle.std.specs.Prelude.{◌≡◌};
+ghost use Rattle.archive_entries.specs.declared.error.BatchDeclined.{BatchDeclined};
 ghost use Rattle.archive_entries.specs.declared.error.Declined.{Declined};
 ghost use Rattle.archive_entries.specs.declared.error.LoadError.{LoadError};
 ghost use Rattle.archive_entries.specs.declared.error.ReadError.{ReadError};
@@ -41,6 +42,36 @@ pub enum Declined {
     Refused(Refusal),
     /// There was no memory.
     Memory,
+}
+
+/// Why a batch was not prepared. Nothing was changed.
+#[derive(Clone, Copy, Debug, PartialEq, Eq)]
+pub enum BatchDeclined {
+    /// It isn't allowed.
+    Refused {
+        /// Why.
+        why: Refusal,
+        /// The number of the item for which it is refused, from 1, where it is for one.
+        index: Option<u32>,
+    },
+    /// There was no memory.
+    Memory,
+}
+
+impl From<AllocError> for BatchDeclined {
+    ghost from_gives = { λ _ e. e ≡ BatchDeclined.Memory };
+
+    fn from(_: AllocError) -> Self {
+        BatchDeclined::Memory
+    }
+}
+
+impl From<Refusal> for Declined {
+    ghost from_gives = { λ why e. e ≡ Declined.Refused why };
+
+    fn from(why: Refusal) -> Self {
+        Declined::Refused(why)
+    }
 }
 
 impl From<AllocError> for Declined {

@@ -6,6 +6,7 @@
 //! to come next is prepared by the same tests (`specs/Entries.antt`). Nothing here writes.
 #![tactic(auto)]
 
+mod batching;
 mod change;
 mod error;
 mod laws;
@@ -16,8 +17,9 @@ mod replaying;
 mod text;
 mod texts;
 
+pub use batching::{NextAct, PreparedBatch, note_all, prepare_batch, take_in_all};
 pub use change::{TEXT_AT, note, placed};
-pub use error::{Declined, LoadError, ReadError};
+pub use error::{BatchDeclined, Declined, LoadError, ReadError};
 pub use laws::{changes_follow_entries, places_follow_entries};
 pub use lists::{are_many, list_up_to};
 pub use live::{position_of, put_live};

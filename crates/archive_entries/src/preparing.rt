@@ -7,7 +7,8 @@ ghost use Rattle.lists_index.specs.Indexes.{state_of, Indexes};
 ghost use Rattle.model_archive.specs.Steps.{arrival_refusal, deletion_refusal};
 ghost use Rattle.journal_entries.specs.declared.entry.Entry.TheVariants as entries;
 ghost use Rattle.archive_entries.specs.Places.{ArePlaced};
-ghost use Rattle.archive_entries.specs.Entries.{IsPrepared, change_refusal};
+ghost use Rattle.lists_versions.specs.Refusals.{change_refusal};
+ghost use Rattle.archive_entries.specs.Entries.{IsPrepared};
 
 use crate::change::may_come;
 use crate::error::Declined;
@@ -33,7 +34,7 @@ pub struct Prepared {
 }
 
 /// The refusal of a text with which there would be too many words.
-fn full_words() -> Refusal
+pub(crate) fn full_words() -> Refusal
     ensures { result ≡ Refusal.Full Which.Words (limit_of Which.Words) }
 {
     Refusal::Full {

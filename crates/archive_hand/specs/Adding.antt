@@ -46,6 +46,15 @@ pub record IsSpent (old new : ArchiveState) : Type 0 where
   pub marked_is : new.marked ≡ old.marked
   pub live_is : new.live ≡ false
 
+-- An archive that is spent within a batch has what it had but for what it tells of words, and may be changed no more.
+pub record IsSpentBut (old new : ArchiveState) : Type 0 where
+  pub end_is : new.end ≡ old.end
+  pub length_is : new.length ≡ old.length
+  pub changes_are : new.changes ≡ old.changes
+  pub shelf_is : HasSameShelf old.shelf new.shelf
+  pub marked_is : new.marked ≡ old.marked
+  pub live_is : new.live ≡ false
+
 -- a change was made or refused, and so the archive isn't spent
 abbrev pub IsDone : {T : Type 0} → Result T ChangeError → Type 0
 IsDone result = IsOk result ⊎ ((why : Refusal) × (result ≡ Err (changes.Refused why)))

@@ -1,5 +1,5 @@
 -- What an open archive is, and when it and its disk stand for a history.
-use Rattle.std.specs.Prelude.{◌≡◌, ℕ, ◌≤◌, Bool, List, [], ◌∷◌, ◌++◌, length, All}
+use Rattle.std.specs.Prelude.{◌≡◌, ℕ, ◌≤◌, Bool, IsTrue, List, [], ◌∷◌, ◌++◌, length, All}
 use Rattle.journal_gates.specs.Records.{first_gate}
 use Rattle.machine_model.specs.Areas.{Both, Bytes}
 use Rattle.machine_model.specs.Images.{MayLeave}
@@ -42,6 +42,20 @@ pub record StandsFor (archive : ArchiveState) (history : History) : Type 0 where
   pub plans_are : archive.shelf.plans ≡ live_plans history
   pub pages_are : HasTaken archive.shelf.pages (live_extents history)
   pub marked_is : archive.marked ≡ is_marked history
+
+-- the same but for what it tells of words
+pub record StandsBut (archive : ArchiveState) (history : History) : Type 0 where
+  pub loadable : IsLoadable history
+  pub end_is : archive.end ≡ end_of history
+  pub length_is : archive.length ≡ length history
+  pub changes_are : ArePlaced first_gate history archive.changes
+  pub plans_are : archive.shelf.plans ≡ live_plans history
+  pub pages_are : HasTaken archive.shelf.pages (live_extents history)
+  pub marked_is : archive.marked ≡ is_marked history
+
+-- what each open archive is, also one that is spent: while it may be changed, what it tells of words stands too
+abbrev pub IsSound : ArchiveState → Type 0
+IsSound archive = (history : History) × StandsBut archive history × (IsTrue archive.live → Indexes archive.index (changes history))
 
 -- a disk of these lengths reaches as far as an open archive: what it may read is there
 abbrev pub Reaches : Both ℕ → ArchiveState → Type 0

@@ -1,5 +1,5 @@
 //! The open archive, and the calls that keep it consistent.
-ghost use Rattle.std.specs.Prelude.{◌≡◌, ◌⊎◌, ◌↔◌, ◌+◌, ◌<◌, ◌≤◌, ◌^◌, ◌++◌, [], ◌∷◌, ℕ, List, length, get_or, Some, None, Ok, Err, IsTrue, IfOk, IfErr, OnOk, IsOk, IsErrOf};
+ghost use Rattle.std.specs.Prelude.{◌≡◌, ◌⊎◌, ◌↔◌, ◌+◌, ◌<◌, ◌≤◌, ◌^◌, ◌++◌, [], ◌∷◌, ℕ, List, length, map, get_or, All, Some, None, Ok, Err, IsTrue, IfOk, IfErr, OnOk, IsOk, IsErrOf};
 ghost use Rattle.journal_gates.specs.Records.{gate_bytes, new_bytes};
 ghost use Rattle.machine_model.specs.Calls.{OnlyReads};
 ghost use Rattle.pages_sublists.specs.Fetching.{IfDamaged, IfFailed};
@@ -17,21 +17,27 @@ ghost use Rattle.journal_entries.specs.declared.plan.PlanEntry.{PlanEntry};
 ghost use Rattle.archive_hand.specs.Storing.{IsDraft, IsStoredAs, IsStoredBy};
 ghost use Rattle.archive_plans.specs.Readying.{IsFull, summary_of, tells_of};
 ghost use Rattle.archive_hand.specs.Asking.{HasAsked};
-ghost use Rattle.archive_hand.specs.States.{StandsFor, CacheStands, IsSameButCache, AreInStepBy, Reaches};
+ghost use Rattle.archive_hand.specs.States.{StandsFor, StandsBut, CacheStands, IsSameButCache, AreInStepBy, Reaches};
 ghost use Rattle.archive_hand.specs.Changing.{KeepsBy};
 ghost use Rattle.archive_hand.specs.Stored.{Store};
+ghost use Rattle.base_commands.specs.Batches.{texts_bytes};
+ghost use Rattle.journal_entries.specs.declared.act.Act.{Act};
 ghost use Rattle.journal_entries.specs.declared.entry.Entry.{Entry};
-ghost use Rattle.archive_hand.specs.Adding.{GivesUp, IsDone, IsMore, IsSpent};
-ghost use Rattle.archive_entries.specs.Entries.{IsNext, IsPrepared, document_of, text_of, change_refusal};
+ghost use Rattle.archive_hand.specs.Adding.{GivesUp, IsDone, IsMore, IsSpent, IsSpentBut};
+ghost use Rattle.archive_entries.specs.Batches.{place_change, EachMayFollow, HasShortText, IsNextBatch, IsPreparedBatch};
+ghost use Rattle.archive_entries.specs.Entries.{IsNext, IsPrepared, document_of, text_of};
+ghost use Rattle.lists_versions.specs.Refusals.{change_refusal};
 ghost use Rattle.lists_index.specs.Indexes.{IsPreparedFor, state_of};
 ghost use Rattle.journal_entries.specs.declared.entry.Entry.TheVariants as entries;
 
 use crate::error::ChangeError;
 use crate::storing::write_ready;
 use archive_entries::{
-    Declined, Prepared, TEXT_AT, full_journal, note, placed, prepare_arrival, prepare_deletion,
+    BatchDeclined, Declined, Prepared, PreparedBatch, TEXT_AT, full_journal, note, note_all, placed,
+    prepare_arrival, prepare_batch, prepare_deletion, take_in_all,
 };
 use archive_plans::{Draft, PlanReport, Shelf, make_ready};
+use base_commands::BatchItem;
 use base_types::{DocId, Span, Time, Which};
 use journal_entries::{FORMAT_BYTES, encode_format};
 use journal_gates::{Frame, GATE_BYTES, Journal};
@@ -58,17 +64,16 @@ pub struct Archive {
 impl Model for Archive {
     ghost use Rattle.std.specs.Prelude.{◌+◌, ◌≤◌, IsTrue};
     ghost use Rattle.journal_gates.specs.Records.{new_bytes};
-    ghost use Rattle.model_archive.specs.Histories.{History};
-    ghost use Rattle.archive_hand.specs.States.{ArchiveState, StandsFor};
+    ghost use Rattle.archive_hand.specs.States.{ArchiveState, IsSound};
     ghost use Rattle.lists_index.specs.Indexes.{state_of};
 
     ghost Value = { ArchiveState };
 
     ghost view = { λ a. record { end = a.journal.end; live = a.live; length = a.entries; changes = a.directory.changes; index = state_of a.index; shelf = a.shelf; marked = a.marked } };
 
-    // It stands for a history, which it shows on any disk.
+    // It stands for a history, which it shows on any disk; one that is spent within a batch but for what it tells of words.
     ghost invariant = { λ a. (IsTrue a.live → IsTrue a.journal.live) × (a.entries + new_bytes ≤ a.journal.end)
-        × ((h : History) × StandsFor (record { end = a.journal.end; live = a.live; length = a.entries; changes = a.directory.changes; index = state_of a.index; shelf = a.shelf; marked = a.marked }) h) };
+        × IsSound (record { end = a.journal.end; live = a.live; length = a.entries; changes = a.directory.changes; index = state_of a.index; shelf = a.shelf; marked = a.marked }) };
 }
 
 impl Archive {
@@ -130,7 +135,7 @@ impl Archive {
     /// The changes of documents with the places of their texts. Constant cost.
     pub fn directory(&self) -> &Directory
         ensures changes { result.now.changes ≡ self.now.changes }
-        ensures stands { (h : History) × StandsFor self.now h }
+        ensures stands { (h : History) × StandsBut self.now h }
     {
         &self.directory
     }
@@ -145,7 +150,7 @@ impl Archive {
     /// The live plans. Constant cost.
     pub fn shelf(&self) -> &Shelf
         ensures shelf { result.now ≡ self.now.shelf }
-        ensures stands { (h : History) × StandsFor self.now h }
+        ensures stands { (h : History) × StandsBut self.now h }
     {
         &self.shelf
     }
@@ -375,6 +380,88 @@ impl Archive {
         match self.journal.append(disk, &frame) {
             Ok(_) => {
                 self.marked = true;
+                self.entries += 1;
+                self.live = true;
+                Ok(self.entries)
+            }
+            Err(_) => Err(ChangeError::Failed),
+        }
+    }
+
+    /// A batch that may come next, or why it may not. Nothing is changed.
+    ///
+    /// Costs what `prepare_batch` does.
+    pub fn batch<'a>(
+        &mut self,
+        alloc: Global,
+        items: &'a [BatchItem],
+    ) -> Result<PreparedBatch<'a>, BatchDeclined>
+        requires sized { (1 ≤ length items.now) × (length items.now ≤ 1000) }
+        requires short { texts_bytes items.now ≤ 16777216 }
+        ensures same { self.new ≡ self.old }
+        ensures fits { IfOk result (λ p. length p.body.items < 2 ^ 32) }
+        ensures allowed { IfOk result (λ p. EachMayFollow self.old.changes (map place_change p.acts.items)) }
+        ensures texts { IfOk result (λ p. All HasShortText p.acts.items) }
+        ensures prepared { (h : History) → StandsFor self.old h → IsPreparedBatch h items.now result }
+    {
+        prepare_batch(
+            alloc,
+            &self.directory,
+            &mut self.index,
+            self.marked,
+            self.journal.end(),
+            items,
+        )
+    }
+
+    /// Makes the changes of a batch that may come next, all at once, if the journal has room for its entry, and
+    /// answers how many entries there are. At `Ok` it is durable.
+    ///
+    /// `Refused`: the journal is full; nothing was changed. `Failed`, `Memory`: the archive is spent, and keeps
+    /// its entries, its texts and its plans; what it tells of words isn't claimed.
+    /// Costs two synced writes, and for each act what `Index::take_in` does.
+    pub fn commit_batch<D: Disk>(
+        &mut self,
+        alloc: Global,
+        disk: &mut D,
+        prepared: PreparedBatch,
+    ) -> Result<u64, ChangeError>
+        requires live { IsTrue self.old.live }
+        requires within { Reaches (D.disk disk.old).reach self.old }
+        requires fits { length prepared.body.items < 2 ^ 32 }
+        requires allowed { EachMayFollow self.old.changes (map place_change prepared.acts.items) }
+        requires texts { All HasShortText prepared.acts.items }
+        requires next { (h : History) → StandsFor self.old h → (batch : List Act) × IsNextBatch h batch prepared.acts.items prepared.body.items }
+        ensures only { D.Disk.only disk.old disk.new }
+        ensures failed { IsErrOf result ChangeError.Failed → Rose (D.disk disk.old).faults (D.disk disk.new).faults }
+        ensures within { Reaches (D.disk disk.new).reach self.new }
+        ensures live { IsTrue self.new.live ↔ IsDone result }
+        ensures refused { (why : Refusal) → IsErrOf result (ChangeError.Refused why) → (why ≡ Refusal.Full Which.Journal (limit_of Which.Journal)) × (limit_of Which.Journal < self.old.end + gate_bytes + length prepared.body.items) }
+        ensures allowed { (IsOk result ⊎ IsErrOf result ChangeError.Failed) → self.old.end + gate_bytes + length prepared.body.items ≤ limit_of Which.Journal }
+        ensures same { (why : Refusal) → IsErrOf result (ChangeError.Refused why) → (self.new ≡ self.old) × (disk.new ≡ disk.old) }
+        // All memory is taken before the first call of the disk.
+        ensures memory { IsErrOf result ChangeError.Memory → disk.new ≡ disk.old }
+        ensures cached { D.disk_tells → CacheStands (D.disk disk.old) self.old → IsDone result → CacheStands (D.disk disk.new) self.new }
+        ensures spent { (IsErrOf result ChangeError.Memory ⊎ IsErrOf result ChangeError.Failed) → IsSpentBut self.old self.new }
+        ensures stands { (h : History) (batch : List Act) → StandsFor self.old h → IsNextBatch h batch prepared.acts.items prepared.body.items → IfOk result (λ n. StandsFor self.new (h ++ entries.Batch batch ∷ []) × (n ≡ length h + 1)) }
+        ensures crash { D.disk_tells → (bodies : List (List ℕ)) → IsInStep (D.disk disk.old) self.old.end bodies → Appends bodies prepared.body.items (D.disk disk.old) (D.disk disk.new) }
+        ensures in_step { D.disk_tells → (bodies : List (List ℕ)) → IsInStep (D.disk disk.old) self.old.end bodies → OnOk result (IsInStep (D.disk disk.new) self.new.end (bodies ++ prepared.body.items ∷ [])) }
+        ensures pages { D.disk_tells → KeepsPages (D.disk disk.old) (D.disk disk.new) }
+        ensures pages_hold { D.disk_tells → OnOk result ((D.disk disk.new).holds.pages ≡ (D.disk disk.old).holds.pages) }
+    {
+        let PreparedBatch { acts, body } = prepared;
+        if Which::Journal.limit() < self.journal.end() + GATE_BYTES + body.len() as u64 {
+            return Err(ChangeError::Refused(full_journal()));
+        }
+        self.live = false;
+        let frame = Frame::new(alloc, &body)?;
+        self.directory.reserve_all(acts.len())?;
+        if take_in_all(alloc, &mut self.index, &acts).is_err() {
+            return Err(ChangeError::Memory);
+        }
+        match self.journal.append(disk, &frame) {
+            Ok(_) => {
+                note_all(&mut self.directory, &acts);
                 self.entries += 1;
                 self.live = true;
                 Ok(self.entries)

@@ -2,9 +2,15 @@
 use Rattle.std.specs.Prelude.{◌≡◌, ℕ, ◌+◌, nat_lt, Bool, true, false, not, List, [], ◌∷◌, ◌++◌, length, map, sum_by, Option, Some, None, refl}
 use Rattle.std.specs.List.{flat_map}
 use Rattle.std.specs.Option.{option_map}
-use Rattle.std.proofs.Common.{sym, ap, subst, ◌∙◌, arith, append_assoc}
+use Rattle.std.proofs.Common.{◌≤◌, sym, ap, subst, ◌∙◌, arith, append_assoc}
 use Rattle.std.proofs.lemmas.List.{append-nil}
 use Rattle.std.proofs.lemmas.List.Concat.{flat_map-append}
+use Rattle.std.proofs.lemmas.List.Sums.{sum_by-cons}
+use Rattle.base_commands.specs.Batches.{text_bytes, texts_bytes}
+use Rattle.base_commands.specs.declared.batch.BatchItem.{BatchItem}
+use Rattle.base_commands.specs.declared.batch.BatchItem.TheVariants as members
+use Rattle.base_commands.specs.declared.text.Text.{Text}
+use Rattle.base_commands.specs.declared.text.Text.TheVariants as texts
 use Rattle.text_words.specs.Words.{distinct}
 use Rattle.lists_versions.specs.declared.change.Change.{Change}
 use Rattle.lists_versions.specs.Tests.{first_of, when}
@@ -16,6 +22,7 @@ use Rattle.journal_entries.specs.Acts.{act_length, alone}
 use Rattle.model_archive.specs.declared.refusal.Refusal.{Refusal}
 use Rattle.model_archive.specs.declared.refusal.Refusal.TheVariants.{BatchTooLong, OldFormat}
 use Rattle.model_archive.specs.Legal.{EachAllowed}
+use Rattle.model_archive.specs.Steps.{act_of, text_held}
 use Rattle.model_archive.specs.Histories.{History, acts, changes, change_by, act_keys, entry_keys, vocabulary, singles, act_refusal, acts_refusal, entry_refusal, is_marked, old_format, long_batch, most_batch}
 
 -- where no test finds a cause, the first finds none, nor do the others
@@ -27,6 +34,10 @@ pub none_mapped : {V W : Type 0} (f : V → W) (o : Option V) → option_map f o
 none_mapped f None none = refl
 none_mapped f (Some why) none = absurd cc
 
+-- a test that finds nothing is passed over
+pub first_step : {W : Type 0} (o : Option W) (tests : List (Option W)) → o ≡ None → first_of (o ∷ tests) ≡ first_of tests
+first_step o tests none = ap (λ x. first_of (x ∷ tests)) none
+
 alone_changes : (a : Act) → acts (alone a) ≡ change_by a ∷ []
 alone_changes (batched.Arrive doc at text) = refl
 alone_changes (batched.Delete doc at) = refl
@@ -35,7 +46,7 @@ alone_keys : (a : Act) → entry_keys (alone a) ≡ act_keys a
 alone_keys (batched.Arrive doc at text) = refl
 alone_keys (batched.Delete doc at) = refl
 
-alone_refusal : (h : History) (a : Act) → entry_refusal h (alone a) ≡ act_refusal h a
+pub alone_refusal : (h : History) (a : Act) → entry_refusal h (alone a) ≡ act_refusal h a
 alone_refusal h (batched.Arrive doc at text) = refl
 alone_refusal h (batched.Delete doc at) = refl
 
@@ -87,3 +98,15 @@ allowed_behind before [] more allowed = let P : History → Type 0 = λ g. EachA
 allowed_behind before (e ∷ h) more allowed =
     let P : History → Type 0 = λ g. EachAllowed g more in
     subst P (append_assoc before (e ∷ []) h) (allowed_behind (before ++ e ∷ []) h more allowed.1)
+
+-- texts that are kept are no longer than those that came
+held_short : (text : Text) → length (text_held text) ≤ text_bytes text
+held_short (texts.Bytes text) = omega arith
+held_short (texts.TooLong bytes) = omega arith
+
+pub acts_short : (items : List BatchItem) → sum_by act_length (flat_map act_of items) ≤ texts_bytes items
+acts_short [] = omega arith
+acts_short (members.Arrive doc at text ∷ items) =
+    omega (arith, acts_short items, held_short text, sum_by-cons act_length (batched.Arrive doc at (text_held text)) (flat_map act_of items))
+acts_short (members.Delete doc at ∷ items) = omega (arith, acts_short items, sum_by-cons act_length (batched.Delete doc at) (flat_map act_of items))
+acts_short (members.Other ∷ items) = omega (arith, acts_short items)

@@ -4,9 +4,8 @@ use Rattle.std.specs.List.{flat_map}
 use Rattle.std.specs.Str.{is_utf8}
 use Rattle.std.proofs.lemmas.Bool.{ltb-false, le-ltb}
 use Rattle.std.proofs.lemmas.Str.{IsUtf8-from_is_utf8}
-use Rattle.std.proofs.lemmas.List.Sums.{sum_by-cons}
 use Rattle.std.proofs.lemmas.List.Elements.{All-nil, All-cons, All-head, All-tail}
-use Rattle.base_commands.specs.Batches.{text_bytes, texts_bytes}
+use Rattle.base_commands.specs.Batches.{texts_bytes}
 use Rattle.base_commands.specs.Documents.{MemberHasDocument, HaveDocuments}
 use Rattle.base_commands.specs.declared.batch.BatchItem.{BatchItem}
 use Rattle.base_commands.specs.declared.batch.BatchItem.TheVariants as members
@@ -25,7 +24,7 @@ use Rattle.model_archive.specs.Histories.{History, act_refusal, acts_refusal, en
 use Rattle.model_archive.specs.Legal.{IsLegalEntry}
 use Rattle.model_archive.specs.Runs.{Outcome}
 use Rattle.model_archive.specs.Steps.{Reply, Accepted, Refused, too_long, bad_text, Cause, first_other, text_held, act_of, text_refusal, item_refusal, for_all, items_cause, batch_cause, refused_for, AddsBatch, Batches}
-use Rattle.model_archive.proofs.BatchLemmas.{none_found, none_mapped}
+use Rattle.model_archive.proofs.BatchLemmas.{acts_short, first_step, none_found, none_mapped}
 
 pub no_cause : {W : Type 0} (test : Bool) (why : W) → when test why ≡ None → test ≡ false
 no_cause true why none = absurd cc
@@ -34,18 +33,6 @@ no_cause false why none = refl
 pub is_true : (b : Bool) → not b ≡ false → b ≡ true
 is_true true is = refl
 is_true false is = absurd cc
-
--- texts that are kept are no longer than those that came
-held_short : (text : Text) → length (text_held text) ≤ text_bytes text
-held_short (texts.Bytes text) = omega arith
-held_short (texts.TooLong bytes) = omega arith
-
-acts_short : (items : List BatchItem) → sum_by act_length (flat_map act_of items) ≤ texts_bytes items
-acts_short [] = omega arith
-acts_short (members.Arrive doc at text ∷ items) =
-    omega (arith, acts_short items, held_short text, sum_by-cons act_length (batched.Arrive doc at (text_held text)) (flat_map act_of items))
-acts_short (members.Delete doc at ∷ items) = omega (arith, acts_short items, sum_by-cons act_length (batched.Delete doc at) (flat_map act_of items))
-acts_short (members.Other ∷ items) = omega (arith, acts_short items)
 
 -- a text that isn't refused is one
 text_good : (text : Text) → text_refusal text ≡ None → (length (text_held text) ≤ most_text) × (is_utf8 (text_held text) ≡ true)
@@ -60,9 +47,6 @@ record AreGood (before : History) (items : List BatchItem) : Type 0 where
   count : length (flat_map act_of items) ≡ length items
   each : All IsAct (flat_map act_of items)
   allowed : acts_refusal before (flat_map act_of items) ≡ None
-
-first_step : {W : Type 0} (o : Option W) (tests : List (Option W)) → o ≡ None → first_of (o ∷ tests) ≡ first_of tests
-first_step o tests none = ap (λ x. first_of (x ∷ tests)) none
 
 -- the cause of an item's refusal
 abbrev in_item : ℕ → Refusal → Cause

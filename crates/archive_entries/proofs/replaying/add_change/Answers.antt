@@ -26,7 +26,7 @@ pub returns-clause-more : goal.returns-clause-more
 returns-clause-more c = λ h entry met makes same.
     met_more h entry c.args.change c.placed.result.held c.args.text_at c.args.met.now.directory.changes c.note.new.directory.changes (loaded c.args.met.now.loader) _ _
     met makes (search rules) c.placed.ensures.held
-    (pushed_is c.args.met.now.directory.changes c.reserve.new.self.changes c.note.new.directory.changes c.args.change c.placed.result c.placed.ensures.doc c.placed.ensures.at c.reserve.ensures.same c.note.ensures)
+    (pushed_is c.args.met.now.directory.changes c.reserve.new.self.changes c.note.new.directory.changes c.args.change c.placed.result c.placed.ensures.doc c.placed.ensures.at c.reserve.ensures.same c.note.ensures.changes)
     same (c.in-Ok-add.ensures.fits (changes h) (record { doc = c.args.change.doc; at = c.args.change.at; held = option_map (λ t. t.now) c.args.text }) met.loads refl)
     (c.in-Ok-add.ensures.added (changes h) met.loads)
 
@@ -34,5 +34,5 @@ pub returns-clause-placed : goal.returns-clause-placed
 returns-clause-placed c = (
   c.placed.result.held,
   c.placed.ensures.held,
-  pushed_is c.args.met.now.directory.changes c.reserve.new.self.changes c.note.new.directory.changes c.args.change c.placed.result c.placed.ensures.doc c.placed.ensures.at c.reserve.ensures.same c.note.ensures,
+  pushed_is c.args.met.now.directory.changes c.reserve.new.self.changes c.note.new.directory.changes c.args.change c.placed.result c.placed.ensures.doc c.placed.ensures.at c.reserve.ensures.same c.note.ensures.changes,
 )

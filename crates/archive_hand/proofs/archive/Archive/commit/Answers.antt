@@ -66,7 +66,7 @@ more g c =
       length_is = refl;
       held = c.placed.result.held;
       held_is = subst (λ (n : ℕ). IsHeld n c.args.prepared.change.held c.placed.result.held) (omega (arith, c.in-Ok.ensures.place)) c.placed.ensures.held;
-      changes_are = c.note.ensures ∙ ap (λ (l : List (Change TextPlace)). l ++ c.placed.result ∷ []) c.reserve.ensures.same
+      changes_are = c.note.ensures.changes ∙ ap (λ (l : List (Change TextPlace)). l ++ c.placed.result ∷ []) c.reserve.ensures.same
           ∙ ap₂ (λ (d : DocId) (t : Time). c.self.inside.directory.changes ++ record { doc = d; at = t; held = c.placed.result.held } ∷ []) c.placed.ensures.doc c.placed.ensures.at;
       shelf_is = refl;
       marked_is = refl;

@@ -1,0 +1,283 @@
+//! Preparing a batch: the tests of its items, each behind those before it, and the spelling of its entry;
+//! and what a directory and an index take of one that may come.
+ghost use Rattle.std.specs.Prelude.{◌≡◌, ◌+◌, ◌<◌, ◌≤◌, ◌^◌, ◌++◌, ◌∷◌, [], ℕ, List, length, map, option_map, Some, None, IfOk, OnOk, IsErrOf, IfSome, MatchResult, All};
+ghost use Rattle.base_commands.specs.Batches.{texts_bytes};
+ghost use Rattle.base_types.specs.declared.text_place.TextPlace.{TextPlace as PlainPlace};
+ghost use Rattle.journal_gates.specs.Records.{first_gate};
+ghost use Rattle.journal_entries.specs.Acts.{IsAct, act_bytes};
+ghost use Rattle.journal_entries.specs.declared.act.Act.{Act};
+ghost use Rattle.journal_entries.specs.declared.entry.Entry.TheVariants as entries;
+ghost use Rattle.lists_index.specs.Indexes.{state_of, Indexes};
+ghost use Rattle.lists_versions.specs.declared.change.Change.{Change as PlainChange};
+ghost use Rattle.model_archive.specs.Histories.{History, act_refusal, change_by, changes, end_of, entry_refusal, is_marked, singles};
+ghost use Rattle.model_archive.specs.Legal.{IsLoadable};
+ghost use Rattle.model_archive.specs.Steps.{act_of, first_other, item_refusal, text_held, text_refusal};
+ghost use Rattle.archive_entries.specs.Batches.{act_with, place_change, text_change, AreAllowed, AreGathered, AreOf, EachMayFollow, HasShortText, IsPreparedBatch};
+ghost use Rattle.archive_entries.specs.Places.{ArePlaced, pair_of};
+
+use crate::change::{ACT_TEXT_AT, note};
+use crate::error::{BatchDeclined, Declined};
+use crate::preparing::full_words;
+use crate::text::text_of;
+use base_commands::{BatchItem, Text};
+use base_types::{DocId, TextPlace, Time};
+use journal_entries::{MOST_TEXT_BYTES, begin_batch, put_arrival, put_deletion};
+use lists_index::{Index, NewWords};
+use lists_versions::{Change, Coming, Directory};
+use model_archive::Refusal;
+use std::alloc::{AllocError, Global};
+use text_words::NumberError;
+
+/// Where the body of the next entry begins behind the journal's end, whose last byte is the entry's gate.
+const BODY_AT: u64 = 4;
+
+/// An act of a batch that is to come next.
+#[derive(Clone, Copy)]
+pub struct NextAct<'a> {
+    /// The change that it makes, with the place that its text will have in the journal.
+    pub change: Change<TextPlace>,
+    /// Its text, or nothing of a deletion.
+    pub text: Option<&'a str>,
+}
+
+/// A batch that may come next.
+#[derive(Drop)]
+pub struct PreparedBatch<'a> {
+    /// Its acts in order.
+    pub acts: Vec<NextAct<'a>>,
+    /// The spelling of its entry.
+    pub body: Vec<u8>,
+}
+
+/// The acts of a batch so far.
+#[derive(Drop)]
+pub(crate) struct Gathered<'a> {
+    coming: Coming,
+    words: NewWords,
+    acts: Vec<NextAct<'a>>,
+    body: Vec<u8>,
+}
+
+impl<'a> Gathered<'a> {
+    /// No act yet of a batch of so many.
+    fn new(alloc: Global, count: u32) -> Result<Gathered<'a>, AllocError>
+        ensures gathered { IfOk result (λ b. (before : List (PlainChange PlainPlace)) (end : ℕ) → AreGathered before end count [] b) }
+        ensures allowed { IfOk result (λ b. (h : History) → AreAllowed h [] b) }
+    {
+        Ok(Gathered {
+            coming: Coming::new(alloc),
+            words: NewWords::new(alloc)?,
+            acts: Vec::new(alloc),
+            body: begin_batch(alloc, count, 0)?,
+        })
+    }
+
+    /// Adds the act that an item is, if it may come behind the others.
+    fn add(
+        &mut self,
+        alloc: Global,
+        directory: &Directory,
+        index: &mut Index,
+        end: u64,
+        item: &'a BatchItem,
+    ) -> Result<(), Declined>
+        requires end { end ≤ 2 ^ 40 }
+        requires gathered { (count : ℕ) × (batch : List Act) × AreGathered directory.now.changes end count batch self.old }
+        ensures same { state_of index.new ≡ state_of index.old }
+        ensures gathered { OnOk result ((count : ℕ) (batch : List Act) → AreGathered directory.now.changes end count batch self.old → AreGathered directory.now.changes end count (batch ++ act_of item.now) self.new) }
+        ensures allowed { OnOk result ((h : History) (count : ℕ) (batch : List Act) → AreOf h directory.now.changes (state_of index.old) end → AreGathered directory.now.changes end count batch self.old → AreAllowed h batch self.old
+            → AreAllowed h (batch ++ act_of item.now) self.new × (item_refusal (h ++ singles batch) item.now ≡ None)) }
+        ensures refused { (why : Refusal) → IsErrOf result (Declined.Refused why) → (h : History) (count : ℕ) (batch : List Act) → AreOf h directory.now.changes (state_of index.old) end → AreGathered directory.now.changes end count batch self.old
+            → AreAllowed h batch self.old → item_refusal (h ++ singles batch) item.now ≡ Some why }
+    {
+        match item {
+            BatchItem::Arrive { doc, at, text } => {
+                let text = content_of(text)?;
+                self.put(alloc, directory, index, end, *doc, *at, Some(text))
+            }
+            BatchItem::Delete { doc, at } => {
+                self.put(alloc, directory, index, end, *doc, *at, None)
+            }
+            BatchItem::Other => Ok(()),
+        }
+    }
+
+    /// Adds an act, if it may come behind the others.
+    fn put(
+        &mut self,
+        alloc: Global,
+        directory: &Directory,
+        index: &mut Index,
+        end: u64,
+        doc: DocId,
+        at: Time,
+        text: Option<&'a str>,
+    ) -> Result<(), Declined>
+        requires end { end ≤ 2 ^ 40 }
+        requires short { IfSome text (λ t. length t.now ≤ MOST_TEXT_BYTES) }
+        requires gathered { (count : ℕ) × (batch : List Act) × AreGathered directory.now.changes end count batch self.old }
+        ensures same { state_of index.new ≡ state_of index.old }
+        ensures gathered { OnOk result ((count : ℕ) (batch : List Act) → AreGathered directory.now.changes end count batch self.old
+            → AreGathered directory.now.changes end count (batch ++ act_with doc at (option_map (λ t. t.now) text.entry) ∷ []) self.new) }
+        ensures allowed { OnOk result ((h : History) (count : ℕ) (batch : List Act) → AreOf h directory.now.changes (state_of index.old) end → AreGathered directory.now.changes end count batch self.old → AreAllowed h batch self.old
+            → AreAllowed h (batch ++ act_with doc at (option_map (λ t. t.now) text.entry) ∷ []) self.new × (act_refusal (h ++ singles batch) (act_with doc at (option_map (λ t. t.now) text.entry)) ≡ None)) }
+        ensures refused { (why : Refusal) → IsErrOf result (Declined.Refused why) → (h : History) (count : ℕ) (batch : List Act) → AreOf h directory.now.changes (state_of index.old) end → AreGathered directory.now.changes end count batch self.old
+            → AreAllowed h batch self.old → act_refusal (h ++ singles batch) (act_with doc at (option_map (λ t. t.now) text.entry)) ≡ Some why }
+    {
+        let text_at = end + BODY_AT + self.body.len() as u64 + ACT_TEXT_AT;
+        let held = held_of(text_at, text);
+        let change = Change { doc, at, held };
+        match self.coming.may_come(directory, &change) {
+            Ok(()) => {}
+            Err(why) => return Err(Declined::Refused(why.into())),
+        }
+        match self.words.add(alloc, index, text) {
+            Ok(()) => {}
+            Err(NumberError::Full) => return Err(Declined::Refused(full_words())),
+            Err(NumberError::Memory) => return Err(Declined::Memory),
+        }
+        put_act(&mut self.body, doc, at, text)?;
+        self.coming.add(directory, change)?;
+        self.acts.push(NextAct { change, text })?;
+        Ok(())
+    }
+}
+
+/// The text of an item, or why it is no version's. Costs its length.
+fn content_of(text: &Text) -> Result<&str, Refusal>
+    ensures { MatchResult result (λ t. (t.now ≡ text_held text.now) × (length t.now ≤ MOST_TEXT_BYTES) × (text_refusal text.now ≡ None)) (λ why. text_refusal text.now ≡ Some why) }
+{
+    match text {
+        Text::Bytes(text) => text_of(text.as_slice()),
+        Text::TooLong { .. } => Err(Refusal::TooLong {
+            limit: MOST_TEXT_BYTES as u64,
+        }),
+    }
+}
+
+/// What is held of a text that lies at this place, or of none.
+fn held_of(at: u64, text: Option<&str>) -> Option<TextPlace>
+    requires { IfSome text (λ t. length t.now ≤ MOST_TEXT_BYTES) }
+    ensures { option_map pair_of result ≡ option_map (λ t. (at, length t.now)) text }
+{
+    match text {
+        Some(text) => Some(TextPlace {
+            at,
+            bytes: text.len() as u32,
+        }),
+        None => None,
+    }
+}
+
+/// Adds the spelling of an act.
+fn put_act(
+    out: &mut Vec<u8>,
+    doc: DocId,
+    at: Time,
+    text: Option<&str>,
+) -> Result<(), AllocError>
+    requires { IfSome text (λ t. length t.now ≤ MOST_TEXT_BYTES) }
+    ensures in_range { IsAct (act_with doc at (option_map (λ t. t.now) text)) }
+    ensures added { OnOk result (out.new.items ≡ out.old.items ++ act_bytes (act_with doc at (option_map (λ t. t.now) text))) }
+{
+    match text {
+        Some(text) => put_arrival(out, doc, at, text),
+        None => put_deletion(out, doc, at),
+    }
+}
+
+/// Prepares a batch behind an archive that ends at this place of the journal; `marked` tells whether the
+/// archive has the mark. Nothing is changed.
+///
+/// `Refused`: for the first cause in order, the archive has no mark; an item is neither an arrival nor a
+/// deletion; or an item is refused behind those before it, as an arrival or a deletion of its own. The
+/// journal's room isn't asked. `Memory`: an allocation failed.
+/// Costs the texts' words twice as much as their bytes say, two look-ups an item, and for each item a pass over
+/// those before it.
+pub fn prepare_batch<'a>(
+    alloc: Global,
+    directory: &Directory,
+    index: &mut Index,
+    marked: bool,
+    end: u64,
+    items: &'a [BatchItem],
+) -> Result<PreparedBatch<'a>, BatchDeclined>
+    requires sized { (1 ≤ length items.now) × (length items.now ≤ 1000) }
+    requires short { texts_bytes items.now ≤ 16777216 }
+    requires end { end ≤ 2 ^ 40 }
+    ensures same { state_of index.new ≡ state_of index.old }
+    ensures fits { IfOk result (λ p. length p.body.items < 2 ^ 32) }
+    ensures allowed { IfOk result (λ p. EachMayFollow directory.now.changes (map place_change p.acts.items)) }
+    ensures texts { IfOk result (λ p. All HasShortText p.acts.items) }
+    ensures prepared { (h : History) → ArePlaced first_gate h directory.now.changes → Indexes (state_of index.old) (changes h) → marked ≡ is_marked h → end ≡ end_of h → IsPreparedBatch h items.now result }
+{
+    if !marked {
+        return Err(whole(Refusal::OldFormat));
+    }
+    if let Some(index) = first_other(items) {
+        return Err(whole(Refusal::BatchLine { index }));
+    }
+    let mut batch = Gathered::new(alloc, items.len() as u32)?;
+    let mut number = 0;
+    for item in items {
+        number += 1;
+        match batch.add(alloc, directory, index, end, item) {
+            Ok(()) => {}
+            Err(Declined::Refused(why)) => {
+                return Err(BatchDeclined::Refused {
+                    why,
+                    index: Some(number),
+                });
+            }
+            Err(Declined::Memory) => return Err(BatchDeclined::Memory),
+        }
+    }
+    let Gathered { acts, body, .. } = batch;
+    Ok(PreparedBatch { acts, body })
+}
+
+/// A refusal of the whole batch.
+fn whole(why: Refusal) -> BatchDeclined
+    ensures { result ≡ BatchDeclined.Refused why None }
+{
+    BatchDeclined::Refused { why, index: None }
+}
+
+/// The number of the first item that is neither an arrival nor a deletion, from 1.
+fn first_other(items: &[BatchItem]) -> Option<u32>
+    requires { length items.now ≤ 1000 }
+    ensures { result ≡ first_other 1 items.now }
+{
+    let mut number = 0;
+    for item in items {
+        number += 1;
+        if let BatchItem::Other = item {
+            return Some(number);
+        }
+    }
+    None
+}
+
+/// Adds the changes of a batch that may come, for which there is room. It costs two look-ups an act.
+pub fn note_all(directory: &mut Directory, acts: &[NextAct])
+    requires allowed { EachMayFollow directory.old.changes (map place_change acts.now) }
+    requires room { length acts.now ≤ directory.old.room }
+    ensures { directory.new.changes ≡ directory.old.changes ++ map place_change acts.now }
+{
+    for act in acts {
+        note(directory, act.change);
+    }
+}
+
+/// Makes the changes of a batch that may come next. After an `Err` the index may have the first of them.
+/// It costs what `Index::take_in` does for each.
+pub fn take_in_all(alloc: Global, index: &mut Index, acts: &[NextAct]) -> Result<(), NumberError>
+    requires texts { All HasShortText acts.now }
+    ensures taken { OnOk result ((h : History) (batch : List Act) → IsLoadable h → entry_refusal h (entries.Batch batch) ≡ None → map text_change acts.now ≡ map change_by batch
+        → Indexes (state_of index.old) (changes h) → Indexes (state_of index.new) (changes (h ++ entries.Batch batch ∷ []))) }
+{
+    for act in acts {
+        index.take_in(alloc, act.change.doc, act.change.at, act.text)?;
+    }
+    Ok(())
+}
