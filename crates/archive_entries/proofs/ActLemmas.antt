@@ -1,5 +1,5 @@
 -- Going over the acts of a batch, one after another.
-use Rattle.std.proofs.Common.{◌≡◌, ℕ, ◌+◌, ◌<◌, ◌≤◌, List, [], ◌∷◌, ◌++◌, length, map, take, drop, get_or, sum_by, All, Option, refl, ap, subst, sym, ◌∙◌, arith, append_assoc, length-append, take-append-drop}
+use Rattle.std.proofs.Common.{◌≡◌, ℕ, ◌+◌, ◌<◌, ◌≤◌, List, [], ◌∷◌, ◌++◌, length, map, take, drop, get_or, All, ap, subst, sym, ◌∙◌, arith, append_assoc, append-nil, length-append, take-append-drop}
 use Rattle.std.proofs.lemmas.List.{map-append, drop_more, take_more}
 use Rattle.base_types.specs.declared.text_place.TextPlace.{TextPlace}
 use Rattle.lists_versions.specs.declared.change.Change.{Change}
@@ -22,6 +22,11 @@ act_at batch i act within is each = subst IsAct (sym is) (each i act within)
 pub act_short : (act : Act) → IsAct act → act_length act ≤ 4194304
 act_short (batched.Arrive doc at text) ranges = omega (arith, ranges.2)
 act_short (batched.Delete doc at) ranges = omega arith
+
+-- their bytes with an act more
+pub acts_pushed : (batch : List Act) (act : Act) → acts_bytes (batch ++ act ∷ []) ≡ acts_bytes batch ++ act_bytes act
+acts_pushed [] act = append-nil (act_bytes act)
+acts_pushed (x ∷ batch) act = ap (λ (l : List ℕ). act_bytes x ++ l) (acts_pushed batch act) ∙ sym (append_assoc (act_bytes x) (acts_bytes batch) (act_bytes act))
 
 -- how long they are
 acts_joined : (one other : List Act) → length (acts_bytes (one ++ other)) ≡ length (acts_bytes one) + length (acts_bytes other)

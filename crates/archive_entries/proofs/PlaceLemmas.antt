@@ -36,12 +36,12 @@ held_bare : (held : Option TextPlace) → option_map nothing (option_map pair_of
 held_bare None = refl
 held_bare (Some place) = refl
 
-pairs_bare : (cs : List (Change TextPlace)) → map bare (map (mapped pair_of) cs) ≡ map bare cs
+pub pairs_bare : (cs : List (Change TextPlace)) → map bare (map (mapped pair_of) cs) ≡ map bare cs
 pairs_bare [] = refl
 pairs_bare (c ∷ cs) = let held = held_bare c.held in let rest = pairs_bare cs in cc
 
 -- and so are the changes of acts and of entries with places or with texts
-acts_bare : (at : ℕ) (batch : List Act) → map bare (placed_acts at batch) ≡ map bare (map change_by batch)
+pub acts_bare : (at : ℕ) (batch : List Act) → map bare (placed_acts at batch) ≡ map bare (map change_by batch)
 acts_bare at [] = refl
 acts_bare at (batched.Arrive doc t text ∷ batch) =
     ap (λ (cs : List (Change (Unit {0}))). record { doc = doc; at = t; held = Some tt } ∷ cs) (acts_bare (at + length (act_bytes (batched.Arrive doc t text))) batch)

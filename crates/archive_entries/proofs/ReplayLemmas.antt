@@ -48,7 +48,7 @@ use Rattle.model_archive.proofs.RefusalLemmas.{arrival-refused, arrival-words, w
 use Rattle.archive_entries.specs.Entries.{IsChange, Makes, IsHeld, text_of}
 use Rattle.archive_entries.proofs.IndexLemmas.{change_of, changes_marked, changes_still, makes_change, makes_is_change, takes_change, words_full, words_within}
 use Rattle.archive_entries.specs.Replaying.{IsTimely, IfTimely, IsOpen, AreOpen, plans_in, plans_from, IsReached, AreMet, HasAhead, IsGoneOver, IsFaulty, IsReplaying, IsNextBad}
-use Rattle.archive_entries.proofs.PlaceLemmas.{acts_push, bare_arrive_refusal, bare_changes, bare_delete_refusal, makes_bare, placed_batch, placed_mark, placed_more, placed_plan}
+use Rattle.archive_entries.proofs.PlaceLemmas.{bare_arrive_refusal, bare_changes, bare_delete_refusal, makes_bare, placed_batch, placed_mark, placed_more, placed_plan}
 
 -- ---- entries that may come as far as is asked at once
 
@@ -138,7 +138,7 @@ pub met_more : (h : History) (e : Entry) (x : Change ℕ) (held : Option TextPla
 met_more h e x held at cs more loader after text met makes allowed is pushed same within takes =
     let change = makes_change e x text makes same in
     let is_change = makes_is_change e x makes in
-    let one = record { doc = x.doc; at = x.at; held = held } ∷ [] in
+    let one : List (Change TextPlace) = record { doc = x.doc; at = x.at; held = held } ∷ [] in
     let may : entry_refusal h e ≡ None = entry_allowed h e is_change (sym (makes_refusal e x h cs makes met.same) ∙ allowed) (omega (arith, within, ap (λ (c : Change (List ℕ)). length (words_in (changes h ++ c ∷ []))) change)) in (
       may,
       record {

@@ -1,11 +1,9 @@
 -- Batches that are to come next: their acts with the texts and with the places of the texts.
-use Rattle.std.specs.Prelude.{◌≡◌, ℕ, ◌+◌, ◌<◌, ◌^◌, List, [], ◌∷◌, ◌++◌, length, map, All, Option, None, Some, IfSome, Result, Ok, Err}
+use Rattle.std.specs.Prelude.{◌≡◌, ℕ, ◌+◌, ◌<◌, ◌^◌, List, [], ◌∷◌, ◌++◌, length, map, All, None, Some, IfSome, Result, Ok, Err}
 use Rattle.std.specs.List.{flat_map}
 use Rattle.std.specs.Option.{option_map}
 use Rattle.base_commands.specs.declared.batch.BatchItem.{BatchItem}
-use Rattle.base_types.specs.declared.ids.DocId.{DocId}
 use Rattle.base_types.specs.declared.text_place.TextPlace.{TextPlace}
-use Rattle.base_types.specs.declared.time.Time.{Time}
 use Rattle.journal_gates.specs.Records.{first_gate}
 use Rattle.lists_versions.specs.declared.change.Change.{Change}
 use Rattle.lists_versions.specs.Changes.{mapped}
@@ -17,7 +15,6 @@ use Rattle.lists_index.specs.NewWords.{Brings}
 use Rattle.journal_entries.specs.Acts.{IsAct, acts_bytes, batch_front}
 use Rattle.journal_entries.specs.Spelling.{spelling}
 use Rattle.journal_entries.specs.declared.act.Act.{Act}
-use Rattle.journal_entries.specs.declared.act.Act.TheVariants as batched
 use Rattle.journal_entries.specs.declared.entry.Entry.TheVariants.{Batch}
 use Rattle.model_archive.specs.Histories.{History, change_by, changes, end_of, singles}
 use Rattle.model_archive.specs.Legal.{EachAllowed, IsLegalEntry}
@@ -49,11 +46,6 @@ EachMayFollow before (change ∷ changes) = (change_refusal change before ≡ No
 -- the text of an act has a length of 32 bits
 abbrev pub HasShortText : NextAct → Type 0
 HasShortText act = IfSome act.text (λ t. length t.now < 2 ^ 32)
-
--- the act of a batch that makes a change of a document at a time, with this text or with none
-abbrev pub act_with : DocId → Time → Option (List ℕ) → Act
-act_with doc at (Some text) = batched.Arrive doc at text
-act_with doc at None = batched.Delete doc at
 
 -- ---- acts that are gathered one after another
 

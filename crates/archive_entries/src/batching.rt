@@ -1,21 +1,23 @@
 //! Preparing a batch: the tests of its items, each behind those before it, and the spelling of its entry;
 //! and what a directory and an index take of one that may come.
-ghost use Rattle.std.specs.Prelude.{◌≡◌, ◌+◌, ◌<◌, ◌≤◌, ◌^◌, ◌++◌, ◌∷◌, [], ℕ, List, length, map, option_map, Some, None, IfOk, OnOk, IsErrOf, IfSome, MatchResult, All};
+ghost use Rattle.std.specs.Prelude.{◌≡◌, ◌+◌, ◌<◌, ◌≤◌, ◌^◌, ◌++◌, ◌∷◌, [], ℕ, List, length, map, Some, None, IfOk, OnOk, IsErrOf, MatchResult, All};
 ghost use Rattle.base_commands.specs.Batches.{texts_bytes};
 ghost use Rattle.base_types.specs.declared.text_place.TextPlace.{TextPlace as PlainPlace};
 ghost use Rattle.journal_gates.specs.Records.{first_gate};
-ghost use Rattle.journal_entries.specs.Acts.{IsAct, act_bytes};
+ghost use Rattle.journal_entries.specs.Acts.{most_text};
 ghost use Rattle.journal_entries.specs.declared.act.Act.{Act};
+ghost use Rattle.journal_entries.specs.declared.act.Act.TheVariants as acts;
 ghost use Rattle.journal_entries.specs.declared.entry.Entry.TheVariants as entries;
-ghost use Rattle.lists_index.specs.Indexes.{state_of, Indexes};
+ghost use Rattle.lists_index.specs.Indexes.{state_of, IndexState, Indexes};
+ghost use Rattle.lists_versions.specs.Coming.{AreCounted};
 ghost use Rattle.lists_versions.specs.declared.change.Change.{Change as PlainChange};
 ghost use Rattle.model_archive.specs.Histories.{History, act_refusal, change_by, changes, end_of, entry_refusal, is_marked, singles};
 ghost use Rattle.model_archive.specs.Legal.{IsLoadable};
 ghost use Rattle.model_archive.specs.Steps.{act_of, first_other, item_refusal, text_held, text_refusal};
-ghost use Rattle.archive_entries.specs.Batches.{act_with, place_change, text_change, AreAllowed, AreGathered, AreOf, EachMayFollow, HasShortText, IsPreparedBatch};
-ghost use Rattle.archive_entries.specs.Places.{ArePlaced, pair_of};
+ghost use Rattle.archive_entries.specs.Batches.{place_change, text_change, AreAllowed, AreGathered, AreOf, EachMayFollow, HasShortText, IsPreparedBatch};
+ghost use Rattle.archive_entries.specs.Places.{ArePlaced};
 
-use crate::change::{ACT_TEXT_AT, note};
+use crate::change::{ACT_TEXT_AT, note, placed};
 use crate::error::{BatchDeclined, Declined};
 use crate::preparing::full_words;
 use crate::text::text_of;
@@ -82,7 +84,7 @@ impl<'a> Gathered<'a> {
         item: &'a BatchItem,
     ) -> Result<(), Declined>
         requires end { end ≤ 2 ^ 40 }
-        requires gathered { (count : ℕ) × (batch : List Act) × AreGathered directory.now.changes end count batch self.old }
+        requires counted { AreCounted directory.now.changes self.old.coming }
         ensures same { state_of index.new ≡ state_of index.old }
         ensures gathered { OnOk result ((count : ℕ) (batch : List Act) → AreGathered directory.now.changes end count batch self.old → AreGathered directory.now.changes end count (batch ++ act_of item.now) self.new) }
         ensures allowed { OnOk result ((h : History) (count : ℕ) (batch : List Act) → AreOf h directory.now.changes (state_of index.old) end → AreGathered directory.now.changes end count batch self.old → AreAllowed h batch self.old
@@ -93,17 +95,15 @@ impl<'a> Gathered<'a> {
         match item {
             BatchItem::Arrive { doc, at, text } => {
                 let text = content_of(text)?;
-                self.put(alloc, directory, index, end, *doc, *at, Some(text))
+                self.arrive(alloc, directory, index, end, *doc, *at, text)
             }
-            BatchItem::Delete { doc, at } => {
-                self.put(alloc, directory, index, end, *doc, *at, None)
-            }
+            BatchItem::Delete { doc, at } => self.delete(directory, *doc, *at),
             BatchItem::Other => Ok(()),
         }
     }
 
-    /// Adds an act, if it may come behind the others.
-    fn put(
+    /// Adds an arrival, if it may come behind the others.
+    fn arrive(
         &mut self,
         alloc: Global,
         directory: &Directory,
@@ -111,78 +111,90 @@ impl<'a> Gathered<'a> {
         end: u64,
         doc: DocId,
         at: Time,
-        text: Option<&'a str>,
+        text: &'a str,
     ) -> Result<(), Declined>
         requires end { end ≤ 2 ^ 40 }
-        requires short { IfSome text (λ t. length t.now ≤ MOST_TEXT_BYTES) }
-        requires gathered { (count : ℕ) × (batch : List Act) × AreGathered directory.now.changes end count batch self.old }
+        requires short { length text.now ≤ MOST_TEXT_BYTES }
+        requires counted { AreCounted directory.now.changes self.old.coming }
         ensures same { state_of index.new ≡ state_of index.old }
-        ensures gathered { OnOk result ((count : ℕ) (batch : List Act) → AreGathered directory.now.changes end count batch self.old
-            → AreGathered directory.now.changes end count (batch ++ act_with doc at (option_map (λ t. t.now) text.entry) ∷ []) self.new) }
+        ensures gathered { OnOk result ((count : ℕ) (batch : List Act) → AreGathered directory.now.changes end count batch self.old → AreGathered directory.now.changes end count (batch ++ acts.Arrive doc at text.now ∷ []) self.new) }
         ensures allowed { OnOk result ((h : History) (count : ℕ) (batch : List Act) → AreOf h directory.now.changes (state_of index.old) end → AreGathered directory.now.changes end count batch self.old → AreAllowed h batch self.old
-            → AreAllowed h (batch ++ act_with doc at (option_map (λ t. t.now) text.entry) ∷ []) self.new × (act_refusal (h ++ singles batch) (act_with doc at (option_map (λ t. t.now) text.entry)) ≡ None)) }
+            → AreAllowed h (batch ++ acts.Arrive doc at text.now ∷ []) self.new × (act_refusal (h ++ singles batch) (acts.Arrive doc at text.now) ≡ None)) }
         ensures refused { (why : Refusal) → IsErrOf result (Declined.Refused why) → (h : History) (count : ℕ) (batch : List Act) → AreOf h directory.now.changes (state_of index.old) end → AreGathered directory.now.changes end count batch self.old
-            → AreAllowed h batch self.old → act_refusal (h ++ singles batch) (act_with doc at (option_map (λ t. t.now) text.entry)) ≡ Some why }
+            → AreAllowed h batch self.old → act_refusal (h ++ singles batch) (acts.Arrive doc at text.now) ≡ Some why }
     {
         let text_at = end + BODY_AT + self.body.len() as u64 + ACT_TEXT_AT;
-        let held = held_of(text_at, text);
-        let change = Change { doc, at, held };
+        let change = Change {
+            doc,
+            at,
+            held: Some(text.len() as u32),
+        };
+        let change = placed(change, text_at);
         match self.coming.may_come(directory, &change) {
             Ok(()) => {}
             Err(why) => return Err(Declined::Refused(why.into())),
         }
-        match self.words.add(alloc, index, text) {
+        match self.words.add(alloc, index, Some(text)) {
             Ok(()) => {}
             Err(NumberError::Full) => return Err(Declined::Refused(full_words())),
             Err(NumberError::Memory) => return Err(Declined::Memory),
         }
-        put_act(&mut self.body, doc, at, text)?;
-        self.coming.add(directory, change)?;
-        self.acts.push(NextAct { change, text })?;
+        put_arrival(&mut self.body, doc, at, text)?;
+        let next = NextAct {
+            change,
+            text: Some(text),
+        };
+        self.keep(directory, next)?;
+        Ok(())
+    }
+
+    /// Adds a deletion, if it may come behind the others.
+    fn delete(&mut self, directory: &Directory, doc: DocId, at: Time) -> Result<(), Declined>
+        requires counted { AreCounted directory.now.changes self.old.coming }
+        ensures gathered { OnOk result ((end count : ℕ) (batch : List Act) → AreGathered directory.now.changes end count batch self.old → AreGathered directory.now.changes end count (batch ++ acts.Delete doc at ∷ []) self.new) }
+        ensures allowed { OnOk result ((h : History) (index : IndexState) (end count : ℕ) (batch : List Act) → AreOf h directory.now.changes index end → AreGathered directory.now.changes end count batch self.old → AreAllowed h batch self.old
+            → AreAllowed h (batch ++ acts.Delete doc at ∷ []) self.new × (act_refusal (h ++ singles batch) (acts.Delete doc at) ≡ None)) }
+        ensures refused { (why : Refusal) → IsErrOf result (Declined.Refused why) → (h : History) (index : IndexState) (end count : ℕ) (batch : List Act) → AreOf h directory.now.changes index end → AreGathered directory.now.changes end count batch self.old
+            → AreAllowed h batch self.old → act_refusal (h ++ singles batch) (acts.Delete doc at) ≡ Some why }
+    {
+        let change = Change {
+            doc,
+            at,
+            held: None,
+        };
+        match self.coming.may_come(directory, &change) {
+            Ok(()) => {}
+            Err(why) => return Err(Declined::Refused(why.into())),
+        }
+        put_deletion(&mut self.body, doc, at)?;
+        self.keep(directory, NextAct { change, text: None })?;
+        Ok(())
+    }
+
+    /// Keeps an act.
+    fn keep(&mut self, directory: &Directory, act: NextAct<'a>) -> Result<(), AllocError>
+        requires counted { AreCounted directory.now.changes self.old.coming }
+        ensures counted { OnOk result (AreCounted directory.now.changes self.new.coming) }
+        ensures changes { OnOk result (self.new.coming.changes.items ≡ self.old.coming.changes.items ++ act.entry.change ∷ []) }
+        ensures acts { OnOk result (self.new.acts.items ≡ self.old.acts.items ++ act.entry ∷ []) }
+        ensures others { (self.new.words ≡ self.old.words) × (self.new.body ≡ self.old.body) }
+    {
+        self.coming.add(directory, act.change)?;
+        self.acts.reserve(1)?;
+        self.acts.push_reserved(act);
         Ok(())
     }
 }
 
 /// The text of an item, or why it is no version's. Costs its length.
 fn content_of(text: &Text) -> Result<&str, Refusal>
-    ensures { MatchResult result (λ t. (t.now ≡ text_held text.now) × (length t.now ≤ MOST_TEXT_BYTES) × (text_refusal text.now ≡ None)) (λ why. text_refusal text.now ≡ Some why) }
+    ensures { MatchResult result (λ t. (t.now ≡ text_held text.now) × (length t.now ≤ most_text) × (text_refusal text.now ≡ None)) (λ why. text_refusal text.now ≡ Some why) }
 {
     match text {
         Text::Bytes(text) => text_of(text.as_slice()),
         Text::TooLong { .. } => Err(Refusal::TooLong {
             limit: MOST_TEXT_BYTES as u64,
         }),
-    }
-}
-
-/// What is held of a text that lies at this place, or of none.
-fn held_of(at: u64, text: Option<&str>) -> Option<TextPlace>
-    requires { IfSome text (λ t. length t.now ≤ MOST_TEXT_BYTES) }
-    ensures { option_map pair_of result ≡ option_map (λ t. (at, length t.now)) text }
-{
-    match text {
-        Some(text) => Some(TextPlace {
-            at,
-            bytes: text.len() as u32,
-        }),
-        None => None,
-    }
-}
-
-/// Adds the spelling of an act.
-fn put_act(
-    out: &mut Vec<u8>,
-    doc: DocId,
-    at: Time,
-    text: Option<&str>,
-) -> Result<(), AllocError>
-    requires { IfSome text (λ t. length t.now ≤ MOST_TEXT_BYTES) }
-    ensures in_range { IsAct (act_with doc at (option_map (λ t. t.now) text)) }
-    ensures added { OnOk result (out.new.items ≡ out.old.items ++ act_bytes (act_with doc at (option_map (λ t. t.now) text))) }
-{
-    match text {
-        Some(text) => put_arrival(out, doc, at, text),
-        None => put_deletion(out, doc, at),
     }
 }
 

@@ -279,7 +279,7 @@ acts_stop bytes left fits e = elim (bind_err (ℕ × List ℕ) (List Act) (numbe
                 each = s.each;
                 few = omega (arith, s.few);
                 next = s.next;
-                begins = elim s.begins [ | inl none ↦ inl none | inr b ↦ inr (s.few, b) ];
+                begins = elim s.begins [ inl none ↦ inl none | inr b ↦ inr (s.few, b) ];
                 are = refl;
               };
             })

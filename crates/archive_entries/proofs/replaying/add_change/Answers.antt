@@ -1,4 +1,4 @@
-use Rattle.std.proofs.Common.{◌≡◌, ℕ, Option, Some, None, IsSome, Err, option_map, refl, ap, rules}
+use Rattle.std.proofs.Common.{Option, Some, None, IsSome, Err, option_map, refl, ap, rules}
 use Rattle.lists_index.specs.Loads.{loaded}
 use Rattle.model_archive.specs.Histories.{changes}
 use Rattle.archive_entries.proofs.ReplayLemmas.{met_more, met_refused, met_wordy, pushed_is}

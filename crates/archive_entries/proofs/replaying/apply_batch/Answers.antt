@@ -1,4 +1,4 @@
-use Rattle.std.proofs.Common.{◌≡◌, ◌∙◌, ◌<◌, ◌≤◌, ℕ, ◌+◌, Bool, true, List, length, map, take, drop, sum_by, arith, rules, ap, subst, sym, None, ◌++◌}
+use Rattle.std.proofs.Common.{◌≡◌, ◌∙◌, ℕ, ◌+◌, Bool, true, List, map, take, drop, sum_by, arith, rules, ap, subst, None, ◌++◌}
 use Rattle.std.proofs.lemmas.Bool.{le-ltb}
 use Rattle.std.proofs.lemmas.List.{take_all}
 use Rattle.lists_versions.specs.Changes.{mapped}
@@ -6,7 +6,7 @@ use Rattle.lists_index.specs.Loads.{loaded}
 use Rattle.journal_entries.specs.Acts.{act_length}
 use Rattle.journal_entries.specs.declared.act.Act.{Act}
 use Rattle.journal_entries.specs.declared.entry.Entry.TheVariants.{Batch}
-use Rattle.model_archive.specs.Histories.{History, entry_refusal, singles}
+use Rattle.model_archive.specs.Histories.{entry_refusal, singles}
 use Rattle.archive_entries.specs.Places.{pair_of, placed_acts}
 use Rattle.archive_entries.specs.Replaying.{AreMet, IsReached}
 use Rattle.archive_entries.proofs.ActLemmas.{acts_front, acts_met, acts_more, acts_placed, acts_split, batch_length}
