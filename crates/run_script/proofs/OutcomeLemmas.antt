@@ -11,7 +11,7 @@ use Rattle.base_commands.specs.declared.command.Command.TheVariants as commands
 use Rattle.base_commands.specs.declared.command.Item.{Item}
 use Rattle.base_commands.specs.declared.command.Item.TheVariants as items
 use Rattle.base_commands.specs.declared.text.Text.TheVariants as texts
-use Rattle.journal_entries.specs.Spelling.{most_text}
+use Rattle.journal_entries.specs.Acts.{most_text}
 use Rattle.model_archive.specs.declared.refusal.Refusal.{Refusal}
 use Rattle.model_archive.specs.declared.refusal.Refusal.TheVariants as refusals
 use Rattle.model_archive.specs.Histories.{History}

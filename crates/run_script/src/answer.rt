@@ -5,7 +5,8 @@ ghost use Rattle.model_archive.specs.Replies.{reply_text};
 ghost use Rattle.model_archive.specs.Steps.{Found, Refused, Reply, Spanned};
 ghost use Rattle.archive_hand.specs.States.{AreInStepBy};
 ghost use Rattle.archive_hand.specs.Stored.{Store, TellsNoEntry};
-ghost use Rattle.archive_changes.specs.Endings.{changed, planned, unchanged};
+ghost use Rattle.archive_hand.specs.Adding.{IsDone};
+ghost use Rattle.archive_changes.specs.Endings.{changed, changed_all, plainly, planned, unchanged};
 ghost use Rattle.archive_questions.specs.Endings.{proposed, version_shown, unanswered, verified};
 ghost use Rattle.base_commands.specs.declared.command.Item.TheVariants as items;
 ghost use Rattle.base_commands.specs.declared.command.Command.TheVariants as plain;
@@ -13,7 +14,7 @@ ghost use Rattle.run_script.specs.Causes.{IsLeft};
 ghost use Rattle.run_script.specs.Outcomes.{CanGoOn, IsAnswered, Writes, WritesAnswer};
 
 use crate::stop::Halt;
-use archive_changes::{PlanReport, delete, mark_format, plan};
+use archive_changes::{BatchError, PlanReport, batch, delete, mark_format, plan};
 use archive_check::VerifyError;
 use archive_entries::{Declined, ReadError};
 use archive_hand::{Archive, ChangeError};
@@ -56,6 +57,10 @@ pub(crate) fn answer<D: Disk>(
             let result = mark_format(alloc, disk, archive);
             write_change(page, result)
         }
+        Command::Batch(items) => {
+            let result = batch(alloc, disk, archive, &items);
+            write_batch(page, result)
+        }
         Command::Find { at, expr } => {
             let result = find(alloc, disk, archive, at, &expr);
             write_answer(page, result)
@@ -88,7 +93,6 @@ pub(crate) fn answer<D: Disk>(
             let result = verify(alloc, disk, archive);
             write_verified(page, result)
         }
-        Command::Batch(_) => refuse(page, Refusal::Line),
         Command::Begin { .. } => refuse(page, Refusal::Line),
         Command::Top { .. } => refuse(page, Refusal::Line),
         Command::Best { .. } => refuse(page, Refusal::Line),
@@ -152,6 +156,34 @@ fn write_change(page: &mut ReplyPage, change: Result<u64, ChangeError>) -> Resul
             Ok(())
         }
         Err(error) => write_unchanged(page, error),
+    }
+}
+
+/// Writes what became of a batch on the page, or halts the run.
+fn write_batch(page: &mut ReplyPage, batch: Result<u64, BatchError>) -> Result<(), Halt>
+    ensures writes { Writes (changed_all batch) result page.new.bytes }
+    ensures fault { IsErrOf result Halt.Disk → IsErrOf batch BatchError.Failed }
+    ensures undamaged { (d : Damage) → IsErrOf result (Halt.Damaged d) → ⊥ }
+    ensures live { OnOk result (IsDone (plainly batch)) }
+{
+    match batch {
+        Ok(length) => {
+            page.accepted(length);
+            Ok(())
+        }
+        Err(BatchError::Refused {
+            refusal,
+            index: None,
+        }) => refuse(page, refusal),
+        Err(BatchError::Refused {
+            refusal,
+            index: Some(index),
+        }) => {
+            page.refused_in(refusal, index);
+            Ok(())
+        }
+        Err(BatchError::Failed) => Err(Halt::Disk),
+        Err(BatchError::Memory) => Err(Halt::Memory),
     }
 }
 

@@ -9,7 +9,7 @@ pub returns-in-Format-clause-outcome : goal.returns-in-Format-clause-outcome
 returns-in-Format-clause-outcome g c = λ tells s in_step. rw (c.in-Command.is, c.in-Format.is) (answers_by s _ _ _ _ _ _ _ (c.mark_format-result.ensures.by_reads tells s in_step) c.write_change-in-Format.ensures.writes)
 
 pub returns-in-Batch-clause-outcome : goal.returns-in-Batch-clause-outcome
-returns-in-Batch-clause-outcome g c = λ tells s in_step. rw (c.in-Command.is, c.in-Batch.is) (refused_by s (items.Command (plain.Batch _)) refusals.Line _ _ _ _ (refl, refl) in_step c.refuse-in-Batch.ensures.goes_on c.refuse-in-Batch.ensures.reply)
+returns-in-Batch-clause-outcome g c = λ tells s in_step. rw (c.in-Command.is, c.in-Batch.is) (answers_by s _ _ _ _ _ _ _ (c.batch-result.ensures.by_reads tells s in_step) c.write_batch.ensures.writes)
 
 pub returns-in-Begin-clause-outcome : goal.returns-in-Begin-clause-outcome
 returns-in-Begin-clause-outcome g c = λ tells s in_step. rw (c.in-Command.is, c.in-Begin.is) (refused_by s (items.Command (plain.Begin _ _)) refusals.Line _ _ _ _ (refl, refl) in_step c.refuse-in-Begin.ensures.goes_on c.refuse-in-Begin.ensures.reply)
