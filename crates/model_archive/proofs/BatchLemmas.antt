@@ -21,7 +21,7 @@ use Rattle.model_archive.specs.declared.refusal.Refusal.{Refusal}
 use Rattle.model_archive.specs.declared.refusal.Refusal.TheVariants.{BatchTooLong, OldFormat}
 use Rattle.model_archive.specs.Legal.{EachAllowed}
 use Rattle.model_archive.specs.Steps.{act_of, text_held}
-use Rattle.model_archive.specs.Histories.{History, acts, changes, change_by, act_keys, entry_keys, singles, act_refusal, acts_refusal, entry_refusal, is_marked, old_format, long_batch, most_batch}
+use Rattle.model_archive.specs.Histories.{History, acts, changes, change_by, singles, act_refusal, acts_refusal, entry_refusal, is_marked, old_format, long_batch, most_batch}
 
 -- where no test finds a cause, the first finds none, nor do the others
 pub none_found : {W : Type 0} (o : Option W) (tests : List (Option W)) → first_of (o ∷ tests) ≡ None → (o ≡ None) × (first_of tests ≡ None)
@@ -39,10 +39,6 @@ first_step o tests none = ap (λ x. first_of (x ∷ tests)) none
 alone_changes : (a : Act) → acts (alone a) ≡ change_by a ∷ []
 alone_changes (batched.Arrive doc at text) = refl
 alone_changes (batched.Delete doc at) = refl
-
-alone_keys : (a : Act) → entry_keys (alone a) ≡ act_keys a
-alone_keys (batched.Arrive doc at text) = refl
-alone_keys (batched.Delete doc at) = refl
 
 pub alone_refusal : (h : History) (a : Act) → entry_refusal h (alone a) ≡ act_refusal h a
 alone_refusal h (batched.Arrive doc at text) = refl
