@@ -1,5 +1,5 @@
 -- An archive of which the cache alone changes, and what is kept is what reads give.
-use Rattle.std.proofs.Common.{IsTrue, false, ◌≡◌, ℕ, List, [], ◌++◌, get_or, All, subst, sym}
+use Rattle.std.proofs.Common.{IsTrue, ◌≡◌, ℕ, List, [], ◌++◌, get_or, All, subst, sym}
 use Rattle.std.proofs.lemmas.List.Elements.{All-nil}
 use Rattle.machine_model.specs.States.{DiskState}
 use Rattle.pages_area.specs.Caches.{Kept, IsHeld, StandsFor as IsCacheOf}
@@ -8,7 +8,6 @@ use Rattle.pages_area.specs.Runs.{IsTaken}
 use Rattle.pages_area.specs.Taken.{PagesState, HasTaken}
 use Rattle.pages_area.proofs.StayLemmas.{apart_parts}
 use Rattle.base_types.specs.declared.extent.Extent.{Extent}
-use Rattle.lists_index.specs.Indexes.{IndexState}
 use Rattle.model_archive.specs.Histories.{History}
 use Rattle.archive_hand.specs.States.{ArchiveState, StandsFor, StandsBut, IsSound, CacheStands, IsSameButCache}
 
@@ -67,22 +66,6 @@ sound_but_cache a b same sound = subst IsSound (sym same) (
     marked_is = sound.1.marked_is;
   },
   sound.2,
-)
-
--- one that is spent needs no index
-pub sound_spent : (a : ArchiveState) (index : IndexState) → IsSound a → IsSound (record a { live = false; index = index })
-sound_spent a index sound = (
-  sound.0,
-  record {
-    loadable = sound.1.loadable;
-    end_is = sound.1.end_is;
-    length_is = sound.1.length_is;
-    changes_are = sound.1.changes_are;
-    plans_are = sound.1.plans_are;
-    pages_are = sound.1.pages_are;
-    marked_is = sound.1.marked_is;
-  },
-  λ live. absurd live,
 )
 
 -- where the cache and Pages are as they were

@@ -1,4 +1,4 @@
-use Rattle.std.proofs.Common.{IfOk, map, ap, sym, subst, ◌∙◌}
+use Rattle.std.proofs.Common.{ap, sym, subst, ◌∙◌}
 use Rattle.lists_index.specs.Indexes.{IndexState}
 use Rattle.archive_hand.specs.States.{ArchiveState, StandsFor}
 use Rattle.archive_hand.proofs.archive.Archive.batch.Goals as goal

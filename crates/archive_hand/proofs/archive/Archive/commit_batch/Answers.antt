@@ -1,4 +1,4 @@
-use Rattle.std.proofs.Common.{◌≡◌, ◌+◌, ◌++◌, ◌∷◌, [], ℕ, List, All, length, map, Err, false, refl, ap, sym, subst, ◌∙◌, arith, rules}
+use Rattle.std.proofs.Common.{◌≡◌, ◌+◌, ◌++◌, ◌∷◌, [], ℕ, List, All, length, map, is_err, Result, Ok, Err, OnOk, true, false, refl, ap, sym, subst, ◌∙◌, arith, rules}
 use Rattle.machine_model.specs.declared.area.Area.TheVariants.{Journal, Pages}
 use Rattle.base_types.specs.declared.text_place.TextPlace.{TextPlace}
 use Rattle.pages_area.specs.Live.{IsInside}
@@ -10,13 +10,14 @@ use Rattle.journal_gates.specs.State.{JournalState}
 use Rattle.journal_gates.specs.declared.error.AppendError.{AppendError}
 use Rattle.journal_gates.specs.declared.error.AppendError.TheVariants as appends
 use Rattle.journal_gates.proofs.InStepLemmas.{step_at}
-use Rattle.lists_index.specs.Indexes.{IndexState, Indexes, state_of}
+use Rattle.lists_index.specs.Indexes.{Indexes, state_of}
 use Rattle.model_archive.specs.Histories.{History, changes}
-use Rattle.archive_entries.specs.Batches.{place_change, IsNextBatch}
+use Rattle.archive_entries.specs.Batches.{place_change, text_change, IsNextBatch}
+use Rattle.archive_entries.specs.declared.batching.NextAct.{NextAct}
 use Rattle.archive_plans.specs.Shelves.{extents_all}
 use Rattle.archive_hand.specs.States.{ArchiveState, StandsFor, IsSound}
-use Rattle.archive_hand.proofs.AddLemmas.{appends_nowhere, inside_on, pages_nowhere, stands_batch, with_batch}
-use Rattle.archive_hand.proofs.CacheLemmas.{cached_on, is_sound, sound_spent, stands_live}
+use Rattle.archive_hand.proofs.AddLemmas.{appends_nowhere, inside_on, pages_nowhere, stands_batch}
+use Rattle.archive_hand.proofs.CacheLemmas.{cached_on, is_sound, stands_live}
 use Rattle.archive_hand.proofs.archive.Archive.commit_batch.Given.{Over}
 use Rattle.archive_hand.proofs.archive.Archive.commit_batch.Goals as goal
 
@@ -74,3 +75,40 @@ returns-clause-within g c =
     end_same : (e : AppendError) (new old : JournalState) → (e ≡ appends.Full → new ≡ old) → (e ≡ appends.Failed → new ≡ record old { live = false }) → new.end ≡ old.end
     end_same appends.Full new old full failed = ap (λ (s : JournalState). s.end) (full refl)
     end_same appends.Failed new old full failed = ap (λ (s : JournalState). s.end) (failed refl)
+
+-- an index that took the acts in tells of them
+on_ok_is : {T E : Type 0} (P : Type 0) (r : Result T E) → is_err r ≡ false → OnOk r P → P
+on_ok_is P (Ok x) none is = is
+on_ok_is P (Err e) none is = absurd cc
+
+taken : (g : Over) (c : goal.After-drop-acts-in-Ok g) (h : History) (batch : List Act) → StandsFor c.args.self.now h → IsNextBatch h batch c.args.prepared.acts.items c.args.prepared.body.items
+    → Indexes (state_of c.take_in_all.new.index) (changes (h ++ Batch batch ∷ []))
+taken g c h batch now next =
+    let stands = subst (λ (a : ArchiveState). StandsFor a h) (sym c.self.view_is) now in
+    on_ok_is _ c.take_in_all.result (sym c.is_err.ensures.value ∙ c.if-is_err.false) c.take_in_all.ensures.taken h batch stands.loadable next.legal.allowed
+    (ap (λ (acts : List NextAct). map text_change acts) c.deref-2.ensures.value ∙ next.texts) stands.index_is
+
+-- an archive with the batch
+made : (g : Over) (c : goal.After-drop-acts-in-Ok g) (h : History) (batch : List Act) → StandsFor c.args.self.now h → IsNextBatch h batch c.args.prepared.acts.items c.args.prepared.body.items
+    → StandsFor (record { end = c.append.new.self.end; live = true; length = c.self.inside.entries + 1; changes = c.note_all.new.directory.changes; index = state_of c.take_in_all.new.index; shelf = c.self.inside.shelf; marked = c.self.inside.marked }) (h ++ Batch batch ∷ [])
+made g c h batch now next =
+    let stands = subst (λ (a : ArchiveState). StandsFor a h) (sym c.self.view_is) now in
+    stands_batch _ h batch c.args.prepared.acts.items c.args.prepared.body.items c.append.new.self.end c.note_all.new.directory.changes (state_of c.take_in_all.new.index) stands next
+    (omega (arith, c.in-Ok.ensures.end, ap length (c.in_ok-frame.ensures.body ∙ c.deref.ensures.value)))
+    (c.note_all.ensures ∙ ap (λ (l : List (Change TextPlace)). l ++ map place_change c.deref-in-Ok.result.now) c.reserve_all.ensures.same
+    ∙ ap (λ (acts : List NextAct). c.self.inside.directory.changes ++ map place_change acts) c.deref-in-Ok.ensures.value)
+    (taken g c h batch now next)
+
+pub invariant_of-self-in-Ok : goal.invariant_of-self-in-Ok
+invariant_of-self-in-Ok g c =
+    let sound : IsSound c.args.self.now = subst IsSound c.self.view_is c.self.invariant.2 in
+    let h = sound.0 in
+    let now : StandsFor c.args.self.now h = stands_live c.args.self.now sound c.requires.live in
+    let (batch, next) = c.requires.next h now in (
+      λ live. search rules,
+      omega (arith, c.self.invariant.1, c.in-Ok.ensures.end),
+      is_sound _ (h ++ Batch batch ∷ []) (made g c h batch now next),
+    )
+
+pub returns-in-Ok-clause-stands : goal.returns-in-Ok-clause-stands
+returns-in-Ok-clause-stands g c = λ h batch now next. (made g c h batch now next, omega (arith, now.length_is, ap (λ (s : ArchiveState). s.length) c.self.view_is))
