@@ -1,5 +1,5 @@
 //! Changes of documents, and the mark, that are made together with the journal's entry.
-ghost use Rattle.std.specs.Prelude.{◌≡◌, ◌⊎◌, ◌↔◌, ◌+◌, ◌<◌, ◌≤◌, ◌^◌, ◌++◌, [], ◌∷◌, ℕ, List, length, All, Some, None, Ok, Err, IsTrue, IfOk, OnOk, IsOk, IsErrOf};
+ghost use Rattle.std.specs.Prelude.{◌≡◌, ◌⊎◌, ◌↔◌, ◌+◌, ◌<◌, ◌≤◌, ◌^◌, ◌++◌, [], ◌∷◌, ℕ, List, length, Some, None, Ok, Err, IsTrue, IfOk, OnOk, IsOk, IsErrOf};
 ghost use Rattle.journal_gates.specs.Records.{gate_bytes};
 ghost use Rattle.machine_model.specs.Causes.{Rose};
 ghost use Rattle.base_types.specs.Limits.{limit_of};

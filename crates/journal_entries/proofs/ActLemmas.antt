@@ -221,4 +221,3 @@ arrival_written doc at text old a b c len l p q r =
     let is : len ≡ length (act_spelling (Arrive doc at text)) = omega (arith, l) in
     r ∙ ap (λ (xs : List ℕ). xs ++ text) (q ∙ ap (λ (xs : List ℕ). xs ++ front) p ∙ append_assoc old (to_be_bytes w32 len) front) ∙ append_assoc old (to_be_bytes w32 len ++ front) text
     ∙ ap (λ (n : ℕ). old ++ (to_be_bytes w32 n ++ act_spelling (Arrive doc at text))) is
-
