@@ -7,6 +7,8 @@
 #![tactic(auto)]
 
 mod archive;
+mod batching;
+mod committing;
 mod error;
 mod laws;
 mod loading;
