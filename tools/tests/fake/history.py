@@ -15,6 +15,8 @@ from .words import BadQuery, Query, one_term, parse, terms
 
 #: The texts of a batch have at most so many bytes together.
 MOST_BATCH = 16_777_216
+#: A test may ask for an archive that is full sooner.
+MOST_DOCUMENTS = int(os.environ.get("FAKE_DOCUMENTS", 1 << 20))
 
 
 class Refusal(Exception):
@@ -147,6 +149,8 @@ class History:
             raise Refusal("4 NoDocument")
         if versions and versions[-1].time == act.time:
             raise Refusal("3 SameTime")
+        if not versions and len(self._versions) >= MOST_DOCUMENTS:
+            raise Refusal(f"10 Full documents {MOST_DOCUMENTS}")
 
     def _test_together(self, size: int) -> None:
         if not self._is_marked:
