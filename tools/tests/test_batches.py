@@ -114,6 +114,9 @@ class Imported(Batched):
         self.fill([Version(START, "one", "text")])
         self.tt("init", self.archive)
         self.assertEqual(self.sizes(), [1])
+        for _ in range(2):
+            self.tt("init", "--format", 2, self.archive)
+            self.assertEqual(self.sizes(), [1, 0])
         for words, marks in ((["--empty"], [[0], [0]]), (["--empty", "--format", 1], [[], []])):
             shutil.rmtree(self.folder / "two", ignore_errors=True)
             self.tt("shard", 2, self.folder / "two", *words)

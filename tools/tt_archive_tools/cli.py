@@ -103,7 +103,7 @@ def _add_filling(kinds: Kinds) -> None:
 
 
 def _add_format(parser: argparse.ArgumentParser) -> None:
-    parser.add_argument("--format", type=int, choices=(1, 2), default=2, help="a new archive takes batches of changes (2), or can be read by programs from before them (1)")
+    parser.add_argument("--format", type=int, choices=(1, 2), help="2 has changes in batches, which new archives get; 1 can be read by programs from before them")
 
 
 def _add_sources(parser: argparse.ArgumentParser) -> None:

@@ -345,14 +345,14 @@ def latest(times: Iterable[int | None]) -> int | None:
     return max((time for time in times if time is not None), default=None)
 
 
-def make_archive(folder: Path, command: Sequence[str], claim: Claim, form: int) -> None:
-    """Makes the folder, an empty archive in it where there is none, and the tables beside it. An archive without changes
-    is marked where it is to have format 2."""
+def make_archive(folder: Path, command: Sequence[str], claim: Claim, form: int | None) -> None:
+    """Makes the folder, an empty archive in it where there is none, and the tables beside it. An archive without changes has
+    format 2 unless 1 is asked for, and an older one gets it where it is asked for."""
     folder.mkdir(parents=True, exist_ok=True)
     for file in (NAMES, IMPORTS):
         (folder / file).touch()
     with Collection(folder, command, claim) as collection:
-        if form == 2 and collection.last_time() is None:
+        if form == 2 or (form is None and collection.last_time() is None):
             collection.mark()
     descriptor = os.open(folder, os.O_RDONLY)
     try:

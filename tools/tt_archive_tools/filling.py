@@ -45,7 +45,7 @@ def shard(options: argparse.Namespace) -> None:
 
 
 def _mark(shards: Collection, options: argparse.Namespace) -> None:
-    if options.format == 2:
+    if options.format != 1:
         shards.mark()
 
 
