@@ -23,5 +23,5 @@ pub record AfterChange {T : Type 0} (Spent : ArchiveState → ArchiveState → T
   pub memory : result ≡ Err changes.Memory → uncalled
   -- unless it is spent, the pages that it keeps go on being what reads give
   pub cached : tells → CacheStands d old → IsDone result → CacheStands e new
-  -- where it is spent, it keeps what it had
+  -- where it is spent, it keeps what Spent says
   pub spent : (result ≡ Err changes.Memory) ⊎ (result ≡ Err changes.Failed) → Spent old new
