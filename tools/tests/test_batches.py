@@ -30,6 +30,17 @@ FAKE = "fake_tt_archive" in os.environ.get("TT_ARCHIVE", "")
 FILES = 300
 
 
+class Steps(Progress):
+    """Keeps what the line on a terminal would tell."""
+
+    def __init__(self, shown: bool) -> None:
+        super().__init__(shown)
+        self.told: list[tuple[int, int]] = []
+
+    def step(self, count: int, at: int) -> None:
+        self.told.append((count, at))
+
+
 class Batched(ArchiveCase):
     def tree(self, count: int, size: int = 10) -> Path:
         """Files that change a second apart."""
@@ -153,8 +164,10 @@ class Imported(Batched):
 
         real = Collection.send
         with mock.patch.dict(os.environ, environment), mock.patch.object(Collection, "send", send), self.open() as collection:
-            feeder = Feeder(collection, "made", "made", Notes(told.append), Progress(False))
+            steps = Steps(False)
+            feeder = Feeder(collection, "made", "made", Notes(told.append), steps)
             feeder.feed(changes)
+        self.assertEqual((sum(count for count, _ in steps.told), steps.told[-1][1]), (len(changes), changes[-1].time))
         return feeder, told, sent
 
     @unittest.skipUnless(FAKE, "only the stand-in has room for so few documents")
