@@ -32,10 +32,11 @@ const BEHIND: Row<'static> = Row {
 #[test]
 fn a_batch_has_at_most_1000_items(rt: HostRuntime) -> Result<(), RowError> {
     let alloc = rt.alloc();
+    let script = many_items(alloc, 1000)?;
     let journal = thousand_acts(alloc)?;
     let run = Run {
         before: MARKED_JOURNAL,
-        script: &many_items(alloc, 1000)?,
+        script: &script,
         status: Status::Done,
         replies: b"ok 3\n",
         after: &journal,
@@ -79,12 +80,13 @@ fn the_texts_of_a_batch_have_at_most_16777216_bytes(rt: HostRuntime) -> Result<(
             b"batch 5\n", &items, b"arrive 5 20 0\n\n",
         ],
     )?;
+    let journal = batched(alloc, &long_batch(alloc, b"")?)?;
     let run = Run {
         before: MARKED_JOURNAL,
         script: &script,
         status: Status::Done,
         replies: b"no 17 BatchTooLong 16777216\nok 3\n",
-        after: &batched(alloc, &long_batch(alloc, b"")?)?,
+        after: &journal,
     };
     expect_run(alloc, 0, &run)
 }
