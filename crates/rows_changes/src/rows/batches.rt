@@ -10,8 +10,7 @@ use run_script::Status;
 use std::alloc::Global;
 
 /// Behind the one arrival: the mark, a batch, and what is found then.
-const SCRIPT: &[u8] =
-    b"format 2\nbatch 2\narrive 7 20 4\nblue\narrive 8 20 3\nred\nfind 20 red\n";
+const SCRIPT: &[u8] = b"format 2\nbatch 2\narrive 7 20 4\nblue\narrive 8 20 3\nred\nfind 20 red\n";
 
 /// The replies to these.
 const REPLIES: &[u8] = b"ok 2\nok 3\nhit 8 1\nend 1 read 2\n";
@@ -160,6 +159,7 @@ fn a_stop_leaves_one_entry_or_the_mark_or_the_batch(rt: HostRuntime) -> Result<(
 
 /// The texts at 20, before the batch and behind it.
 const BEFORE: &[u8] = b"text 5\nred a\nnone\n";
+
 const AFTER: &[u8] = b"text 4\nblue\ntext 3\nred\n";
 
 /// An image that a stop may leave has both texts of the batch, or none of them.
@@ -253,10 +253,17 @@ fn a_batch_that_is_carried_out_stays_before_one_that_breaks(
 ) -> Result<(), RowError> {
     let alloc = rt.alloc();
     let script = join(alloc, &[SCRIPT, b"batch 2\ndelete 7 30\n"])?;
-    let mut machine = machine_on(alloc, &script, Image {
-        journal: Vec::from_slice(alloc, FIRST_JOURNAL)?,
-        pages: Vec::new(alloc),
-    }, &[])?;
-    let status = Status::Script { at: script.len() as u64 };
+    let mut machine = machine_on(
+        alloc,
+        &script,
+        Image {
+            journal: Vec::from_slice(alloc, FIRST_JOURNAL)?,
+            pages: Vec::new(alloc),
+        },
+        &[],
+    )?;
+    let status = Status::Script {
+        at: script.len() as u64,
+    };
     expect_end(alloc, &mut machine, 0, status, REPLIES)
 }

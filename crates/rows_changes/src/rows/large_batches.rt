@@ -42,7 +42,11 @@ fn a_batch_has_at_most_1000_items(rt: HostRuntime) -> Result<(), RowError> {
         after: &journal,
     };
     expect_run(alloc, 0, &run)?;
-    expect_run(alloc, 1, &Run::kept(&journal, BEHIND.script, BEHIND.replies))?;
+    expect_run(
+        alloc,
+        1,
+        &Run::kept(&journal, BEHIND.script, BEHIND.replies),
+    )?;
     expect_counts(alloc, &[(&journal, 3)])
 }
 
@@ -76,8 +80,12 @@ fn the_texts_of_a_batch_have_at_most_16777216_bytes(rt: HostRuntime) -> Result<(
     let script = join(
         alloc,
         &[
-            b"batch 5\n", &items, b"arrive 5 20 1\nx\n",
-            b"batch 5\n", &items, b"arrive 5 20 0\n\n",
+            b"batch 5\n",
+            &items,
+            b"arrive 5 20 1\nx\n",
+            b"batch 5\n",
+            &items,
+            b"arrive 5 20 0\n\n",
         ],
     )?;
     let journal = batched(alloc, &long_batch(alloc, b"")?)?;
@@ -98,10 +106,22 @@ fn texts_that_are_too_long_come_before_the_line(rt: HostRuntime) -> Result<(), R
     let text = vec![in alloc; b' '; 16_777_217]?;
     let script = join(
         alloc,
-        &[b"batch 3\ndelete 5 9\nhello\narrive 7 9 16777217\n", &text, b"\n"],
+        &[
+            b"batch 3\ndelete 5 9\nhello\narrive 7 9 16777217\n",
+            &text,
+            b"\n",
+        ],
     )?;
-    expect_run(alloc, 0, &Run::kept(FIRST_JOURNAL, &script, b"no 18 OldFormat\n"))?;
-    expect_run(alloc, 1, &Run::kept(MARKED_JOURNAL, &script, b"no 17 BatchTooLong 16777216\n"))
+    expect_run(
+        alloc,
+        0,
+        &Run::kept(FIRST_JOURNAL, &script, b"no 18 OldFormat\n"),
+    )?;
+    expect_run(
+        alloc,
+        1,
+        &Run::kept(MARKED_JOURNAL, &script, b"no 17 BatchTooLong 16777216\n"),
+    )
 }
 
 // Together they are within the limit.
@@ -111,7 +131,11 @@ fn one_text_of_a_batch_is_too_long(rt: HostRuntime) -> Result<(), RowError> {
     let text = vec![in alloc; b' '; 4_194_305]?;
     let script = join(
         alloc,
-        &[b"batch 2\narrive 7 20 1\nx\narrive 8 9 4194305\n", &text, b"\n"],
+        &[
+            b"batch 2\narrive 7 20 1\nx\narrive 8 9 4194305\n",
+            &text,
+            b"\n",
+        ],
     )?;
     let run = Run::kept(MARKED_JOURNAL, &script, b"no 5 TooLong 4194304 in 2\n");
     expect_run(alloc, 0, &run)

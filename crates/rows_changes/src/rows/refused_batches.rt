@@ -1,7 +1,5 @@
 //! Batches that are refused: the first cause in order, and that nothing comes of them.
-use rows_rig::{
-    BATCHED_JOURNAL, FIRST_JOURNAL, MARKED_JOURNAL, Row, RowError, Run, expect_run,
-};
+use rows_rig::{BATCHED_JOURNAL, FIRST_JOURNAL, MARKED_JOURNAL, Row, RowError, Run, expect_run};
 use std::alloc::Global;
 
 /// Each of these scripts comes to its end on this journal with these replies, and leaves it as it is.

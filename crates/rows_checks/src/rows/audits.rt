@@ -81,7 +81,11 @@ fn altered(alloc: Global, disk: &Image, audit: &Audited<'_>) -> Result<Image, Ro
 }
 
 /// Of the disk, as each row alters it, this is told.
-pub(crate) fn expect_audits(alloc: Global, disk: &Image, rows: &[Audited<'_>]) -> Result<(), RowError> {
+pub(crate) fn expect_audits(
+    alloc: Global,
+    disk: &Image,
+    rows: &[Audited<'_>],
+) -> Result<(), RowError> {
     for (row, wanted) in rows.iter().enumerate() {
         let altered = altered(alloc, disk, wanted)?;
         expect_audit(alloc, row, (&altered, &[]), wanted.status, wanted.told)?;

@@ -122,7 +122,13 @@ fn planned_disk(alloc: Global, row: &Planned<'_>) -> Result<Image, AllocError> {
 
 /// A disk is no archive's for a run and for an audit, which shows at this place.
 fn expect_foreign(alloc: Global, row: usize, disk: Image, at: u64) -> Result<(), RowError> {
-    expect_audit(alloc, row, (&disk, &[]), AuditStatus::NotArchive { at }, b"")?;
+    expect_audit(
+        alloc,
+        row,
+        (&disk, &[]),
+        AuditStatus::NotArchive { at },
+        b"",
+    )?;
     expect_status(alloc, disk, row, Status::NotArchive { at })
 }
 
@@ -153,8 +159,24 @@ fn the_first_entry_that_is_wrong_is_named_before_a_batch_that_is(
         planned(first, HALF, 0, 290),
         planned(wide, HALF, 8210, 104),
         planned(wide, HALF_AT_ONCE, 8210, 104),
-        planned(Plan { horizon: 41, ..first }, HALF, 8210, 104),
-        planned(Plan { word: b"w", ..first }, HALF_AT_ONCE, 8210, 104),
+        planned(
+            Plan {
+                horizon: 41,
+                ..first
+            },
+            HALF,
+            8210,
+            104,
+        ),
+        planned(
+            Plan {
+                word: b"w",
+                ..first
+            },
+            HALF_AT_ONCE,
+            8210,
+            104,
+        ),
         planned(first, b"", 8209, 104),
     ];
     for (row, wanted) in rows.iter().enumerate() {
