@@ -133,7 +133,7 @@ fn expect_foreign(alloc: Global, row: usize, disk: Image, at: u64) -> Result<(),
 }
 
 /// A disk with the batch of four, a plan and more records.
-fn planned<'a>(plan: Plan<'a>, more: &'a [u8], pages: usize, at: u64) -> Planned<'a> {
+fn with_plan<'a>(plan: Plan<'a>, more: &'a [u8], pages: usize, at: u64) -> Planned<'a> {
     Planned {
         plan,
         more,
@@ -154,12 +154,12 @@ fn the_first_entry_that_is_wrong_is_named_before_a_batch_that_is(
     let two_segments = [one, two];
     let wide = plan_of_v(40, &two_segments);
     let rows = [
-        planned(first, HALF, 8210, 290),
-        planned(first, HALF_AT_ONCE, 8210, 290),
-        planned(first, HALF, 0, 290),
-        planned(wide, HALF, 8210, 104),
-        planned(wide, HALF_AT_ONCE, 8210, 104),
-        planned(
+        with_plan(first, HALF, 8210, 290),
+        with_plan(first, HALF_AT_ONCE, 8210, 290),
+        with_plan(first, HALF, 0, 290),
+        with_plan(wide, HALF, 8210, 104),
+        with_plan(wide, HALF_AT_ONCE, 8210, 104),
+        with_plan(
             Plan {
                 horizon: 41,
                 ..first
@@ -168,7 +168,7 @@ fn the_first_entry_that_is_wrong_is_named_before_a_batch_that_is(
             8210,
             104,
         ),
-        planned(
+        with_plan(
             Plan {
                 word: b"w",
                 ..first
@@ -177,7 +177,7 @@ fn the_first_entry_that_is_wrong_is_named_before_a_batch_that_is(
             8210,
             104,
         ),
-        planned(first, b"", 8209, 104),
+        with_plan(first, b"", 8209, 104),
     ];
     for (row, wanted) in rows.iter().enumerate() {
         let disk = planned_disk(alloc, wanted)?;
