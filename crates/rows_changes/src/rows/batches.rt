@@ -1,10 +1,10 @@
 //! Batches: changes that come all at once, as one entry.
-use machine_mem::{MemMachine, Tail};
+use machine_mem::{CallKind, Fault, MemMachine, Tail};
 use machine_model::Image;
 use rows_rig::{
     BATCHED_JOURNAL, FIRST_JOURNAL, MARKED_JOURNAL, Row, RowError, Run, TAILS, expect_end,
-    expect_in_pieces, expect_moments, expect_run, join, machine_after, machine_on, pick_image,
-    run_on,
+    expect_in_pieces, expect_moments, expect_run, join, machine_after, machine_on, make_machine,
+    pick_image, run_on,
 };
 use run_script::Status;
 use std::alloc::Global;
@@ -36,8 +36,15 @@ const TWO_BATCHES: &[u8] = b"TIMETRAVELTEXT\x00\x01\
     \x00\x00\x00\x0d\x02\x00\x00\x00\x08\x00\x00\x00\x00\x00\x00\x00\x15\
     \x00";
 
+/// The mark, and a batch of one change at 5.
+const EARLY: &[u8] = b"TIMETRAVELTEXT\x00\x01\
+    \xa5\x00\x00\x00\x03\x05\x00\x02\
+    \xa5\x00\x00\x00\x17\x04\x00\x00\x00\x01\
+    \x00\x00\x00\x0e\x01\x00\x00\x00\x01\x00\x00\x00\x00\x00\x00\x00\x05v\
+    \x00";
+
 /// Runs that come to their end.
-const RUNS: [Run<'static>; 7] = [
+const RUNS: [Run<'static>; 9] = [
     Run {
         before: FIRST_JOURNAL,
         script: SCRIPT,
@@ -92,6 +99,22 @@ const RUNS: [Run<'static>; 7] = [
         status: Status::Done,
         replies: b"ok 3\nno 3 SameTime in 1\nok 4\n",
         after: TWO_BATCHES,
+    },
+    // on a new disk; the time of a refused batch is none
+    Run {
+        before: b"",
+        script: b"format 2\nbatch 2\narrive 1 10 1\nv\narrive 2 9 1\nv\nbatch 1\narrive 1 5 1\nv\n",
+        status: Status::Done,
+        replies: b"ok 1\nno 2 TimeBack 10 in 2\nok 2\n",
+        after: EARLY,
+    },
+    // a CR at the input's end is a part of the line, which then is no command
+    Run {
+        before: MARKED_JOURNAL,
+        script: b"batch 1\r",
+        status: Status::Done,
+        replies: b"no 1 Line\n",
+        after: MARKED_JOURNAL,
     },
 ];
 
@@ -204,9 +227,10 @@ fn a_stop_leaves_a_batch_whole_or_not_at_all(rt: HostRuntime) -> Result<(), RowE
 }
 
 /// Scripts behind the mark that end within a batch, or are broken earlier, and the place.
-const BROKEN: [(&[u8], u64); 14] = [
+const BROKEN: [(&[u8], u64); 15] = [
     (b"batch 1", 7),
     (b"batch 1\n", 8),
+    (b"batch 1\r\n", 9),
     (b"batch 1\n#\n\n", 11),
     (b"batch 2\ndelete 7 20", 19),
     (b"batch 2\ndelete 7 20\n", 20),
@@ -244,6 +268,45 @@ fn a_script_that_ends_within_a_batch_is_broken(rt: HostRuntime) -> Result<(), Ro
         expect_broken(rt.alloc(), script, *at)?;
     }
     Ok(())
+}
+
+// A line has at most 4,096 bytes, within a batch too.
+#[test]
+fn a_line_within_a_batch_that_is_too_long_breaks_the_script(
+    rt: HostRuntime,
+) -> Result<(), RowError> {
+    let alloc = rt.alloc();
+    let line = vec![in alloc; b'#'; 4097]?;
+    let script = join(alloc, &[b"batch 1\n", &line, b"\ndelete 7 20\n"])?;
+    let run = Run {
+        script: &script,
+        ..Run::untouched(MARKED_JOURNAL, Status::Script { at: 8 })
+    };
+    expect_run(alloc, 0, &run)
+}
+
+/// A batch of 45 bytes, of which each pull gives one.
+const BY_BYTES: &[u8] = b"batch 2\narrive 7 20 4\nblue\narrive 8 20 3\nred\n";
+
+/// Where this pull fails, the run behind the mark ends with these replies.
+fn expect_pull(alloc: Global, nth: u64, replies: &[u8]) -> Result<(), RowError> {
+    let fault = Fault {
+        call: CallKind::Pull,
+        nth,
+        landed: 0,
+    };
+    let mut machine = make_machine(alloc, BY_BYTES, MARKED_JOURNAL, &[fault])?.with_pulls_of(1);
+    expect_end(alloc, &mut machine, nth as usize, Status::Source, replies)
+}
+
+// The reply comes when the last item is whole, and before more is read.
+#[test]
+fn a_batch_is_answered_when_it_is_whole(rt: HostRuntime) -> Result<(), RowError> {
+    let alloc = rt.alloc();
+    for nth in [1, 8, 9, 28, 41, 45] {
+        expect_pull(alloc, nth, b"")?;
+    }
+    expect_pull(alloc, 46, b"ok 3\n")
 }
 
 // What comes before it is carried out and answered.

@@ -27,8 +27,8 @@ const LINES: [Row<'static>; 7] = [
     },
     // an item is an arrival or a deletion
     Row {
-        script: b"batch 1\nhello\nbatch 1\nformat 2\nbatch 1\nverify\nbatch 1\nfind 10 red\nbatch 1\nplan red guarantee 1/1\nbatch 1\ndelete 7\nbatch 1\nbegin red guarantee 1/1\n",
-        replies: b"no 16 BatchLine 1\nno 16 BatchLine 1\nno 16 BatchLine 1\nno 16 BatchLine 1\nno 16 BatchLine 1\nno 16 BatchLine 1\nno 16 BatchLine 1\n",
+        script: b"batch 1\nhello\nbatch 1\nformat 2\nbatch 1\nverify\nbatch 1\nfind 10 red\nbatch 1\nplan red guarantee 1/1\nbatch 1\ndelete 7\nbatch 1\nbegin red guarantee 1/1\nbatch 1\n\xc3\x28\n",
+        replies: b"no 16 BatchLine 1\nno 16 BatchLine 1\nno 16 BatchLine 1\nno 16 BatchLine 1\nno 16 BatchLine 1\nno 16 BatchLine 1\nno 16 BatchLine 1\nno 16 BatchLine 1\n",
     },
     // the first that is neither
     Row {

@@ -3,9 +3,9 @@ use crate::rows::audits::{Audited, expect_audit, expect_audits};
 use crate::rows::disks::expect_told;
 use machine_model::Image;
 use rows_rig::{
-    Plan, Row, RowError, batched, disk_after, disk_after_all, expect_entry, expect_status,
-    first_segments, foreign_batches, journal_of, long_batch, new_disk, pages_of, plan_of_v,
-    plan_record,
+    FIRST_PLAN, FOUR_CHANGES, Plan, Row, RowError, batched, disk_after, disk_after_all,
+    expect_entry, expect_in_order, expect_status, first_segments, foreign_batches, journal_of,
+    long_batch, new_disk, pages_of, plan_of_v, plan_record,
 };
 use run_audit::AuditStatus;
 use run_script::Status;
@@ -70,6 +70,22 @@ fn an_audit_goes_over_the_texts_of_a_batch(rt: HostRuntime) -> Result<(), RowErr
     let alloc = rt.alloc();
     let disk = disk_after_all(alloc, new_disk(alloc), &[FOUR_AT_ONCE, PLAN])?;
     expect_audits(alloc, &disk, &AUDITS)
+}
+
+/// The first plan behind the four changes, and a batch behind it: what comes later is none of its check, and of the
+/// next plan's.
+const GOES_ON: [Row<'static>; 3] = [
+    FOUR_CHANGES,
+    FIRST_PLAN,
+    Row {
+        script: b"format 2\nbatch 2\narrive 3 40 1\nv\ndelete 3 60\nverify\nfind 39 v\nfind 40 v\nplan v guarantee 1/1\nverify\nfind 45 v\n",
+        replies: b"ok 6\nok 7\nsound 1 3\nhit 1 1\nend 1 read 1\nhit 3 1\nend 1 read 1\nplan 8 segments 4 space 5 full 3 horizon 60\nsound 1 4\nhit 3 1\nend 1 read 1\n",
+    },
+];
+
+#[test]
+fn a_batch_leaves_a_plan_sound(rt: HostRuntime) -> Result<(), RowError> {
+    expect_in_order(rt.alloc(), &GOES_ON)
 }
 
 /// The texts of a batch have `c` first, and then `b` and `a`. There are plans of `a` and `b`.
