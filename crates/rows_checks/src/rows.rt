@@ -1,5 +1,6 @@
 //! The rows, by what they ask of the program.
 mod audits;
+mod batches;
 mod changed;
 mod damaged;
 mod disks;

@@ -129,11 +129,17 @@ fn plan_body(alloc: Global, plan: &Plan<'_>) -> Result<Vec<u8>, AllocError> {
     Ok(body)
 }
 
-/// The record of a plan: an open gate, the length of the spelling in 4 bytes, and the spelling.
+/// The record of an entry that is spelled so: an open gate, the length of the spelling in 4 bytes, and the
+/// spelling.
+pub fn record_of(alloc: Global, body: &[u8]) -> Result<Vec<u8>, AllocError> {
+    let length = &(body.len() as u64).to_be_bytes()[4..];
+    [b"\xa5".as_slice(), length, body].concat(alloc)
+}
+
+/// The record of a plan.
 pub fn plan_record(alloc: Global, plan: &Plan<'_>) -> Result<Vec<u8>, AllocError> {
     let body = plan_body(alloc, plan)?;
-    let length = &(body.len() as u64).to_be_bytes()[4..];
-    [b"\xa5".as_slice(), length, &body].concat(alloc)
+    record_of(alloc, &body)
 }
 
 /// A plan of the word `v` with the factor 1, in blocks.

@@ -9,6 +9,7 @@
 //! Journals with plans and their sublists are spelled here by the formats alone (`journals`, `sublists`).
 #![tactic(auto)]
 
+mod batches;
 mod changes;
 mod damages;
 mod disks;
@@ -22,6 +23,7 @@ mod scripts;
 mod stops;
 mod sublists;
 
+pub use batches::{batched, foreign_batches, long_batch, put_arrival};
 pub use changes::{Change, expect_change, expect_changes, made, refused, three_changes};
 pub use damages::{Damaged, expect_damaged, expect_line};
 pub use disks::{
@@ -34,7 +36,7 @@ pub use error::RowError;
 pub use journals::{
     BLOCKS, FLAT, FOUR_END, FOUR_RECORDS, GAP_RECORDS, GUARANTEE, Plan, SINCE_30, Segment, UNIFORM,
     first_segments, flat_segments, gap_segments, journal_of, pages_of, plan_of_v, plan_record,
-    segment_at,
+    record_of, segment_at,
 };
 pub use lives::{many_arrivals, many_lives, put_lines};
 pub use machines::{
@@ -44,8 +46,8 @@ pub use machines::{
 pub use rows::{Row, expect_end, expect_replies, expect_rows};
 pub use runs::{Run, expect_counts, expect_in_pieces, expect_run, expect_runs};
 pub use scripts::{
-    FIRST_JOURNAL, FIRST_SCRIPT, MIXED_ENDS, MIXED_JOURNAL, MIXED_REPLIES, MIXED_SCRIPT,
-    NEW_JOURNAL,
+    BATCHED_JOURNAL, FIRST_JOURNAL, FIRST_SCRIPT, MARKED_JOURNAL, MIXED_ENDS, MIXED_JOURNAL,
+    MIXED_REPLIES, MIXED_SCRIPT, NEW_JOURNAL,
 };
 pub use stops::{
     TAILS, expect_entries, expect_moments, expect_shown, pick_entries, pick_image, whole_images,

@@ -34,6 +34,17 @@ impl<'a> Run<'a> {
             after: journal,
         }
     }
+
+    /// A run that comes to its end with these replies and leaves the journal as it is.
+    pub fn kept(journal: &'a [u8], script: &'a [u8], replies: &'a [u8]) -> Run<'a> {
+        Run {
+            before: journal,
+            script,
+            status: Status::Done,
+            replies,
+            after: journal,
+        }
+    }
 }
 
 /// A machine on the journal of a run, of whose input each pull gives at most so many bytes.

@@ -1,17 +1,20 @@
 //! Each device call of a run failing once, in turn.
 use machine_mem::{CallKind, Fault, MemMachine};
-use rows_rig::{FIRST_JOURNAL, RowError, expect_replies, expect_shown, make_machine, run_on};
+use rows_rig::{
+    FIRST_JOURNAL, MARKED_JOURNAL, RowError, expect_replies, expect_shown, make_machine, run_on,
+};
 use run_script::Status;
 use std::alloc::Global;
 
 /// Three arrivals.
 const SCRIPT: &[u8] = b"arrive 7 20 4\nblue\narrive 8 20 0\n\narrive 7 30 9\nred green\n";
 
-/// A disk to begin with: its journal, its entries, and the replies to the script there.
+/// A disk to begin with, its journal and its entries; and a script with its replies there.
 #[derive(Clone, Copy, Debug)]
 struct Start<'a> {
     journal: &'a [u8],
     entries: u64,
+    script: &'a [u8],
     replies: &'a [u8],
 }
 
@@ -60,7 +63,7 @@ fn has_ended(
 /// Runs the script with a fault, and answers whether it came to its end. It shows a front of the
 /// replies, and each image at each moment has the entries of the replies shown then, or one more.
 fn ends_despite(alloc: Global, start: &Start<'_>, fault: Fault) -> Result<bool, RowError> {
-    let mut machine = make_machine(alloc, SCRIPT, start.journal, &[fault])?;
+    let mut machine = make_machine(alloc, start.script, start.journal, &[fault])?;
     let status = run_on(alloc, &mut machine)?;
     expect_shown(alloc, &machine, start.entries)?;
     has_ended(alloc, &machine, start, fault, status)
@@ -108,6 +111,7 @@ fn each_call_fails_once_on_a_new_disk(rt: HostRuntime) -> Result<(), RowError> {
     let start = Start {
         journal: b"",
         entries: 0,
+        script: SCRIPT,
         replies: b"ok 1\nok 2\nok 3\n",
     };
     let rows = [
@@ -129,6 +133,7 @@ fn each_call_fails_once_on_a_disk_with_an_entry(rt: HostRuntime) -> Result<(), R
     let start = Start {
         journal: FIRST_JOURNAL,
         entries: 1,
+        script: SCRIPT,
         replies: b"ok 2\nok 3\nok 4\n",
     };
     let rows = [
@@ -140,6 +145,28 @@ fn each_call_fails_once_on_a_disk_with_an_entry(rt: HostRuntime) -> Result<(), R
         calls_of(CallKind::Write, u64::MAX, 6, 6),
         calls_of(CallKind::Sync, 0, 7, 7),
         calls_of(CallKind::Push, 0, 3, 3),
+    ];
+    fail_all(rt.alloc(), &start, &rows)
+}
+
+// A batch takes as many as one arrival: two writes and two syncs, beside the sync of the load.
+#[test]
+fn each_call_of_a_batch_fails_once(rt: HostRuntime) -> Result<(), RowError> {
+    let start = Start {
+        journal: MARKED_JOURNAL,
+        entries: 2,
+        script: b"batch 4\narrive 7 20 4\nblue\narrive 8 20 0\n\ndelete 7 30\narrive 8 30 9\nred green\n",
+        replies: b"ok 3\n",
+    };
+    let rows = [
+        calls_of(CallKind::Length, 0, 1, 99),
+        calls_of(CallKind::Read, 0, 1, 99),
+        calls_of(CallKind::Pull, 0, 2, 99),
+        calls_of(CallKind::Write, 0, 2, 2),
+        calls_of(CallKind::Write, 1, 2, 2),
+        calls_of(CallKind::Write, u64::MAX, 2, 2),
+        calls_of(CallKind::Sync, 0, 3, 3),
+        calls_of(CallKind::Push, 0, 1, 1),
     ];
     fail_all(rt.alloc(), &start, &rows)
 }

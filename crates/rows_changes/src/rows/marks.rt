@@ -1,15 +1,9 @@
 //! The mark of a journal that may have batches.
 use rows_rig::{
-    FIRST_JOURNAL, Row, RowError, Run, expect_in_pieces, expect_runs, expect_shown, machine_after,
-    new_disk,
+    FIRST_JOURNAL, MARKED_JOURNAL, Row, RowError, Run, expect_in_pieces, expect_runs, expect_shown,
+    machine_after, new_disk,
 };
 use run_script::Status;
-
-/// The journal of the one arrival, and the mark behind it.
-const MARKED: &[u8] = b"TIMETRAVELTEXT\x00\x01\
-    \xa5\x00\x00\x00\x12\x01\x00\x00\x00\x07\x00\x00\x00\x00\x00\x00\x00\x0ared a\
-    \xa5\x00\x00\x00\x03\x05\x00\x02\
-    \x00";
 
 /// The mark, and the one arrival behind it.
 const MARKED_FIRST: &[u8] = b"TIMETRAVELTEXT\x00\x01\
@@ -24,15 +18,15 @@ const RUNS: [Run<'static>; 4] = [
         script: b"format 2\n",
         status: Status::Done,
         replies: b"ok 2\n",
-        after: MARKED,
+        after: MARKED_JOURNAL,
     },
     // there is one mark
     Run {
-        before: MARKED,
+        before: MARKED_JOURNAL,
         script: b"format 2\n format  2 \n",
         status: Status::Done,
         replies: b"no 19 HasFormat\nno 19 HasFormat\n",
-        after: MARKED,
+        after: MARKED_JOURNAL,
     },
     // the mark changes no document
     Run {
@@ -82,7 +76,7 @@ const MARKED_WITH_MORE: &[u8] = b"TIMETRAVELTEXT\x00\x01\
     \xa5\x00\x00\x00\x04\x05\x00\x02\x00\
     \x00";
 
-/// An entry with the tag between a plan's and the mark's.
+/// A mark with the tag of a batch, which then is cut short in its number of acts.
 const TAGGED_FOUR: &[u8] = b"TIMETRAVELTEXT\x00\x01\
     \xa5\x00\x00\x00\x12\x01\x00\x00\x00\x07\x00\x00\x00\x00\x00\x00\x00\x0ared a\
     \xa5\x00\x00\x00\x03\x04\x00\x02\
@@ -96,7 +90,7 @@ fn a_mark_that_is_none_is_refused(rt: HostRuntime) -> Result<(), RowError> {
         Run::untouched(MARKED_OTHERWISE, Status::NotArchive { at: 45 }),
         Run::untouched(MARKED_IN_PART, Status::NotArchive { at: 45 }),
         Run::untouched(MARKED_WITH_MORE, Status::NotArchive { at: 47 }),
-        Run::untouched(TAGGED_FOUR, Status::NotArchive { at: 44 }),
+        Run::untouched(TAGGED_FOUR, Status::NotArchive { at: 45 }),
     ];
     expect_runs(rt.alloc(), &runs)
 }

@@ -31,7 +31,7 @@ fn expect_end(
 
 /// An audit of a disk, some calls of which fail, ends so and shows this, and the disk is as it was. In its table
 /// the disk is this row, counted from 0.
-fn expect_audit(
+pub(crate) fn expect_audit(
     alloc: Global,
     row: usize,
     (disk, faults): (&Image, &[Fault]),
@@ -47,17 +47,17 @@ fn expect_audit(
 
 /// What is told of a disk.
 #[derive(Clone, Copy, Debug)]
-struct Audited<'a> {
+pub(crate) struct Audited<'a> {
     /// Where its Pages have other bytes, and which.
-    bytes: &'a [(usize, u8)],
+    pub(crate) bytes: &'a [(usize, u8)],
     /// Where a bit of its journal is turned.
-    turned: &'a [usize],
+    pub(crate) turned: &'a [usize],
     /// How an audit ends.
-    status: AuditStatus,
+    pub(crate) status: AuditStatus,
     /// What it tells.
-    told: &'a [u8],
+    pub(crate) told: &'a [u8],
     /// What `verify` tells.
-    verified: &'a [u8],
+    pub(crate) verified: &'a [u8],
 }
 
 /// Changes one bit of a byte in the journal, which has to reach there.
@@ -81,7 +81,11 @@ fn altered(alloc: Global, disk: &Image, audit: &Audited<'_>) -> Result<Image, Ro
 }
 
 /// Of the disk, as each row alters it, this is told.
-fn expect_audits(alloc: Global, disk: &Image, rows: &[Audited<'_>]) -> Result<(), RowError> {
+pub(crate) fn expect_audits(
+    alloc: Global,
+    disk: &Image,
+    rows: &[Audited<'_>],
+) -> Result<(), RowError> {
     for (row, wanted) in rows.iter().enumerate() {
         let altered = altered(alloc, disk, wanted)?;
         expect_audit(alloc, row, (&altered, &[]), wanted.status, wanted.told)?;
