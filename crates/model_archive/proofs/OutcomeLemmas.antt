@@ -386,7 +386,7 @@ one_topped h count at query reply other a b =
     a.4 ∙ ap (λ (r : List Row). Found (take count.number r) a.1) rows ∙ ap (λ (n : ℕ). Found (take count.number b.0) n) read ∙ sym b.4
 
 one_tops : (h : History) (count : TopCount) (at : Time) (text : List ℕ) (reply other : Reply) → Tops h count at text reply → Tops h count at text other → reply ≡ other
-one_tops h count at text = one_text (TopsBy h count at) (one_topped h count at)
+one_tops h count at text = one_text (TopsBy h count at) (one_topped h count at) text
 
 one_spanned : (h : History) (span : Span) → IsOnly (SpansBy h span)
 one_spanned h span query reply other a b =
