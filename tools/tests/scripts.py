@@ -49,7 +49,7 @@ NO_COMMANDS = [
     b"find", b"find 10", b"find 10 \xc3\x28", b"between 5 5 red", b"between 7 3 red", b"between 1 2", b"plan", b"plan red",
     b"plan red guarantee", b"plan red space 2/1", b"plan red space 2/1 since", b"plan red space 2/1 uniform 3", b"plan \xff guarantee 2/1",
     b"propose red", b"propose red space 2/1 uniform", b"certificate", b"certificate red blue", b"verify now", b"\r", b"\0", b"\xff\xfe",
-    b"begin red guarantee 2/1", b"format 2", b"format 02", b"top 3 10 red", b"best 3 10 red", b"approx red 1/2", b"rough 1/2 10 red",
+    b"begin red guarantee 2/1", b"format", b"format 02", b"top 3 10 red", b"best 3 10 red", b"approx red 1/2", b"rough 1/2 10 red",
     b"share 2/1 red blue", b"batch", b"batch 0", b"batch 1001", b"batch x", b"batch 1 2", b"batch -1", b"q" * 4_096,
 ]  # fmt: skip
 BROKEN = [b"arrive\n", b"arrive 1 2\n", b"arrive 1 x 3\nred\n", b"arrive 1 2 3 4\n", b"  arrive 1 1969-01-01 0\n\n", b"r" * 4_097]
@@ -147,11 +147,10 @@ class Writer:
     def command(self) -> bytes:
         """One command, with its text where it is an arrival."""
         kind = self.chance.randrange(100)
-        if kind < 34:
-            text = self.text()
-            return b"arrive %b %b %d\n%b" % (self.document(), self.sound_time(), len(text), text)
+        if kind < 36:
+            return self.change()
         if kind < 44:
-            return b"delete %b %b" % (self.document(), self.time())
+            return self.batch()
         if kind < 56:
             return b"find %b %b" % (self.asked_time(), self.query())
         if kind < 64:
@@ -174,9 +173,25 @@ class Writer:
         if kind < 96:
             return self.chance.choice(SKIPPED)
         if kind < 97:
-            count = self.chance.randint(1, 3)
-            return b"\n".join([b"batch %d" % count, *(self.command() for _ in range(count))])
+            return b"format 2"
         return self.chance.choice(NO_COMMANDS)
+
+    def change(self) -> bytes:
+        if self.is_one_in(5):
+            return b"delete %b %b" % (self.document(), self.time())
+        text = self.text()
+        return b"arrive %b %b %d\n%b" % (self.document(), self.sound_time(), len(text), text)
+
+    def batch(self) -> bytes:
+        """Changes that come all at once. Among them may be other commands and skipped lines, and there may be more or fewer of them than
+        its line says: the next lines belong to it, or are items by themselves, and the script may end within it."""
+        count = self.chance.choice([1, 1, 2, 2, 3, 5, 12])
+        lines = [self.command() if self.is_one_in(12) else self.change() for _ in range(count)]
+        if self.is_one_in(6):
+            lines.insert(self.chance.randrange(count), self.chance.choice([*SKIPPED, b"batch 2", b"batch 2", b"batch 0"]))
+        if self.is_one_in(15):
+            count = max(1, count + self.chance.choice([-1, 1, 2]))
+        return b"\n".join([b"batch %d" % count if self.chance.randrange(20) else b"batch 0%d" % count, *lines])
 
     def sound_time(self) -> bytes:
         """Of an arrival, whose line has to be a command."""
@@ -197,6 +212,8 @@ class Writer:
             if not self.is_one_in(5):
                 change = b"arrive %b %b %d\n%b" % (self.document(), self.sound_time(), len(text), text)
             changes.append(change + b"\n")
+        if self.chance.randrange(2):
+            changes.insert(self.chance.randint(0, len(changes)), b"format 2\n")
         return b"".join(changes)
 
     def script(self, most: int) -> bytes:
@@ -225,6 +242,8 @@ class Writer:
             self.clock += 1
             text = word * self.chance.randint(1, 2)
             lines.append(b"arrive %d %d %d\n%b\n" % (self.chance.randrange(4), self.clock, len(text), text))
+        if self.chance.randrange(2):
+            lines.insert(0, b"format 2\nbatch %d\n" % len(lines))
         lines.append(b"plan %b space %b uniform\n" % (word, self.factor()))
         lines.append(b"find %d %b\nplan %b guarantee 3/2\nfind %d %b\n" % (self.clock - 9, word, word, self.clock - 7, word))
         return b"".join(lines)

@@ -23,6 +23,7 @@ sys.path.insert(0, str(TOOLS))
 from tt_archive_tools import commands  # noqa: E402
 from tt_archive_tools.cli import main  # noqa: E402
 from tt_archive_tools.collection import Collection  # noqa: E402
+from tt_archive_tools.journal import HEADER, entries_from  # noqa: E402
 from tt_archive_tools.program import find_program  # noqa: E402
 from tt_archive_tools.replies import Ok, Text  # noqa: E402
 
@@ -41,6 +42,8 @@ _PROBES = {
         b"ok 1\nok 2\nok 3\nok 4\nplan 5 segments 3 space 2 full 2 horizon 4\nhit 1 1\nend 1 read 1\n",
     ),
     "space": (b"plan a space 1/1 uniform\n", b"no 13 UnknownWord\n"),
+    "mark": (b"format 2\n", b"ok 1\n"),
+    "batches": (b"format 2\nbatch 1\narrive 1 1 1\na\n", b"ok 1\nok 2\n"),
 }
 
 
@@ -97,6 +100,14 @@ for line in sys.stdin.buffer:
             count += not refusal
             print(f"no 99 {{refusal}}" if refusal else f"ok {{count}}", flush=True)
 """
+
+
+def changes_of(journal: bytes) -> list[tuple[int, int, bytes, bool]]:
+    """The changes that a journal has, whether they came one by one or in batches."""
+    file = io.BytesIO(journal)
+    file.seek(len(HEADER))
+    acts = (act for entry in entries_from(file, len(HEADER), "journal", texts=True) for act in entry.acts or (entry,))
+    return [(act.doc, act.time, act.text, act.arrives) for act in acts if act.changes]
 
 
 @functools.cache

@@ -16,7 +16,7 @@ from pathlib import Path
 from typing import Any, Callable
 from unittest import mock
 
-from support import DAY, ArchiveCase, answers, find_program, sample
+from support import DAY, ArchiveCase, answers, changes_of, find_program, needs, sample
 from tt_archive_tools import commands
 from tt_archive_tools.cluster import running
 from tt_archive_tools.cluster.asking import FEEDS
@@ -65,13 +65,14 @@ class HereEngine:
 class OneShard(ArchiveCase):
     def test_a_call_that_was_overtaken_or_comes_twice(self) -> None:
         program = ShardProgram(str(self.archive), find_program(None), True)
-        self.assertEqual(program.ask(1, commands.arrive(1, 5, b"a"), 1), b"ok 1\n")
+        count = 2 if answers("mark") else 1
+        self.assertEqual(program.ask(1, commands.arrive(1, 5, b"a"), 1), b"ok %d\n" % count)
         for number in (1, 3, 0):
             with self.assertRaisesRegex(ProgramFailed, f"call {number} came behind call 1, and wasn't carried out"):
                 program.ask(number, commands.arrive(1, 6, b"b"), 1)
         self.assertEqual(program.ask(2, commands.show(1, 9) * 2, 2), b"text 1\na\n" * 2)
         where = program.where()
-        self.assertEqual((where.entries, where.last, where.worker_process), (1, 5, os.getpid()))
+        self.assertEqual((where.entries, where.last, where.worker_process), (count, 5, os.getpid()))
         self.assertEqual(program.close(), (0, ""))
 
     def test_a_program_that_ends_tells_why_again_and_again(self) -> None:
@@ -103,7 +104,7 @@ class OneShard(ArchiveCase):
         extent = program.extent()
         piece = program.piece(16)
         assert piece
-        self.assertEqual((piece.count, piece.gate), (30, extent.gate))
+        self.assertEqual((piece.count, piece.gate), (31 if answers("mark") else 30, extent.gate))
         self.assertIsNone(program.piece(extent.gate))
         copy = ShardProgram(str(self.folder / "copy"), find_program(None), False)
         copy.ask(1, piece.script, piece.count)
@@ -114,7 +115,8 @@ class OneShard(ArchiveCase):
 
 class Scripts(unittest.TestCase):
     def test_wherever_a_script_is_cut(self) -> None:
-        whole = [b"find 5 a\n", commands.arrive(1, 2, b"two\nlines\n"), commands.arrive(2, 3, b""), b"delete 4 5\n"]
+        acts = [commands.arrive(1, 2, b"two\nlines\n"), commands.arrive(2, 3, b""), b"delete 4 5\n", b"batch 2\n"]
+        whole = [b"find 5 a\n", *acts[:3], commands.batch(acts), commands.batch([b"batch 1\n"]), b"show 1 2\n"]
         script = b"".join(whole)
         for size in range(1, len(script) + 1):
             cutter, found = Cutter(), []
@@ -264,7 +266,7 @@ class Clustered(ArchiveCase):
                 more = self.tree(120 + 3 * (status + 1))
                 self.assertNotIn("refused", self.tt("import", "folder", more).stdout)
                 self.assertEqual(self.journals("copy"), self.journals())
-        self.assertEqual(self.journals(), self.by_pipes(tree))
+        self.assertEqual([*map(changes_of, self.journals())], [*map(changes_of, self.by_pipes(tree))])
 
     def test_a_tt_that_was_killed_is_carried_out_before_the_next(self) -> None:
         """What it sent is in the socket; whoever feeds next waits until it is carried out."""
@@ -292,12 +294,13 @@ class Clustered(ArchiveCase):
                 self.assertIn(said, visitor.makefile("rb").read())
         self.assertEqual((self.archive / CLUSTER).stat().st_mode & 0o777, 0o600)
 
+    @needs("batches")
     def test_place_and_drop(self) -> None:
         self.tt("import", "folder", self.tree(40))
         new = self.folder / "new" / "copy-3"
         self.assertEqual(
-            self.tt("cluster", "place", 3, "c", new).stdout, f"c:{new} is a copy of shard 3, with 10 entries sent to it now\n"
-        )
+            self.tt("cluster", "place", 3, "c", new).stdout, f"c:{new} is a copy of shard 3, with 3 entries sent to it now\n"
+        )  # the mark and two batches
         self.assertEqual((new / "archive.journal").read_bytes(), self.journals()[3])
         self.assertIn("has a place already", self.tt("cluster", "place", 3, "c", new, status=1).stderr)
         self.assertIn("isn't a whole path", self.tt("cluster", "place", 3, "c", "here", status=1).stderr)
@@ -313,6 +316,7 @@ class Clustered(ArchiveCase):
         (self.archive / "level.tsv").write_text("")
         self.assertIn("may lack what was acknowledged", self.tt("cluster", "drop", 2, "a", status=1).stderr)
 
+    @needs("batches")
     def test_a_copy_whose_folder_was_emptied(self) -> None:
         self.tt("import", "folder", self.tree(40))
         self.tt("cluster", "stop")
@@ -321,7 +325,7 @@ class Clustered(ArchiveCase):
         self.engine.broken[self.archive / "shard-0"] = "the worker was killed"
         self.assertIn("archive.journal is gone", self.tt("find", "text", status=1).stderr)  # and is not made anew, empty
         self.engine.broken.clear()
-        self.assertIn("copy-0 was brought up by 10 entries", self.tt("import", "folder", self.tree(41)).stderr)
+        self.assertIn("copy-0 was brought up by 3 entries", self.tt("import", "folder", self.tree(41)).stderr)
         self.assertEqual(self.journals("copy"), self.journals())
 
     def test_pages_over_a_cluster(self) -> None:

@@ -73,7 +73,7 @@ class Copies(ArchiveCase):
         self.assert_level()
         self.assert_whole()
 
-    @needs("plans")
+    @needs("plans", "batches")
     def test_plans_are_copied_too(self) -> None:
         self.tt("import", "folder", self.tree)
         self.tt("plan", "text", "guarantee", "3/2")
@@ -81,7 +81,8 @@ class Copies(ArchiveCase):
         shutil.rmtree(self.archive / "copy-1")
         (self.archive / "copy-1").mkdir()
         said = self.tt("plan", "w1", "guarantee", "2/1").stderr
-        self.assertIn(f"{self.archive}/copy-1 was brought up by {FILES // 2 + 1} entries", said)
+        # The mark, batches of 8 and twice 16 changes, and a plan.
+        self.assertIn(f"{self.archive}/copy-1 was brought up by 5 entries", said)
         self.assert_level()
 
     def test_a_copy_answers_where_the_first_place_is_lost(self) -> None:
@@ -109,7 +110,7 @@ class Copies(ArchiveCase):
         self.assertIn("copy-0 is asked in its place", done.stderr)
 
     def test_a_copy_that_is_lost_in_an_import_is_brought_up_by_the_next(self) -> None:
-        done = self.tt("import", "folder", self.tree, TT_ARCHIVE=self.only("copy-1", "dd bs=1 count=900 status=none"))
+        done = self.tt("import", "folder", self.tree, TT_ARCHIVE=self.only("copy-1", "dd bs=1 count=2500 status=none"))
         self.assertIn(f"{FILES} versions", done.stdout)
         self.assertIn(f"tt: the copy {self.archive}/copy-1 is left out, and the next change brings it up: ", done.stderr)
         self.assertEqual(self.level(), {"copy-0"})
@@ -193,6 +194,7 @@ class Copies(ArchiveCase):
         journal = self.archive / "copy-1" / "archive.journal"
         return journal.exists() and journal.stat().st_size > 100
 
+    @needs("batches")
     def test_copies_on_other_machines(self) -> None:
         (self.folder / "bin").mkdir()
         ssh = self.folder / "bin" / "ssh"
@@ -207,7 +209,7 @@ class Copies(ArchiveCase):
         (self.archive / "shards.tsv").write_text("".join(lines).replace("copy-1\tfar", "copy-1\taway"))
         self.assertIn("the copy away:", self.tt("import", "folder", self.tree, **path).stderr)
         (self.archive / "shards.tsv").write_text("".join(lines))
-        self.assertIn("was brought up by 5 entries", self.tt("import", "folder", self.tree, **path).stderr)
+        self.assertIn("was brought up by 1 entry", self.tt("import", "folder", self.tree, **path).stderr)
         self.assert_level()
         wanted = self.tt("find", "w3", **path).stdout
         (self.archive / "shards.tsv").write_text("".join(lines).replace("near", "away"))

@@ -83,7 +83,7 @@ class ManyUnderWay(ArchiveCase):
 
     def test_a_stop_among_many(self) -> None:
         self.fill_repository()
-        for size in (40_000, 60_001):
+        for size in (45_000, 75_001):
             self.tt("import", "git", self.repository.path, status=1, TT_ARCHIVE=self.after(size, "true"))
         self.assertGreater(summary([Shard(self.archive)]).arrivals, FILES // 2)
         self.assert_all_there()
@@ -94,7 +94,7 @@ class ManyUnderWay(ArchiveCase):
         environment = {**os.environ, "TT_ARCHIVE": self.after(60_000, "cat >/dev/null")}
         with subprocess.Popen(words, env=environment, stdout=subprocess.PIPE, stderr=subprocess.PIPE) as tt:
             until = time.monotonic() + 60
-            while (self.archive / "archive.journal").stat().st_size < 50_000 and time.monotonic() < until:
+            while (self.archive / "archive.journal").stat().st_size < 35_000 and time.monotonic() < until:
                 time.sleep(0.01)
             tt.send_signal(signal.SIGINT)
             _, said = tt.communicate()

@@ -435,7 +435,7 @@ class Journals(PagesCase):
         self.fill(sample(seed=5, documents=4, count=60))
         self.tt("plan", "w1", "guarantee", "3/2")
         self.fill([Version(2_000 * DAY, "doc1", "")])
-        wanted = [(entry.doc, entry.time, entry.arrives) for entry in entries(self.archive, texts=False) if not entry.plan]
+        wanted = [(entry.doc, entry.time, entry.arrives) for entry in entries(self.archive, texts=False) if entry.changes]
         self.assertEqual((list(heads(self.archive)), len(wanted)), (wanted, 61))
         (self.archive / "archive.journal").write_bytes(b"this is no journal at all")
         self.assertRaises(ToolError, list, heads(self.archive))

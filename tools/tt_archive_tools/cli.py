@@ -89,6 +89,7 @@ parser = _parser
 def _add_filling(kinds: Kinds) -> None:
     init = _command(kinds, "init", "filling.init", "make an empty archive")
     init.add_argument("folder", type=Path, metavar="FOLDER")
+    _add_format(init)
     _add_sources(kinds.add_parser("import", help="fill the archive from a source"))
     refresh = _command(kinds, "refresh", "refreshing.refresh", "import each source of this archive again, all in one order of time")
     refresh.add_argument("--go-on", action="store_true", help="leave out the sources that can't be read; what is new in them may be too late afterwards")
@@ -96,8 +97,13 @@ def _add_filling(kinds: Kinds) -> None:
     shard.add_argument("count", type=int, metavar="N")
     shard.add_argument("into", type=Path, metavar="INTO")
     shard.add_argument("--empty", action="store_true", help="make empty archives, to import into")
+    _add_format(shard)
     _command(kinds, "status", "telling.status", "tell what the archive holds")
     _command(kinds, "verify", "telling.verify", "check what the plans store by the archive's own texts")
+
+
+def _add_format(parser: argparse.ArgumentParser) -> None:
+    parser.add_argument("--format", type=int, choices=(1, 2), help="2 has changes in batches, which new archives get; 1 can be read by programs from before them")
 
 
 def _add_sources(parser: argparse.ArgumentParser) -> None:

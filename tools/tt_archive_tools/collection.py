@@ -15,6 +15,7 @@ from selectors import PollSelector
 from types import TracebackType
 from typing import Any, Iterable, Sequence
 
+from . import commands
 from .copying import Gained, JournalFile, bring_up
 from .errors import BadQuery, InUse, NotBuilt, ProgramFailed, ToolError
 from .ledger import FILE as IMPORTS
@@ -23,12 +24,14 @@ from .names import FILE as NAMES
 from .names import NameTable
 from .places import Places, level_copies, note_level, shards_of, table_of
 from .program import JOURNAL, Program, Shard
-from .replies import Refused, Reply, Rows, merge_rows
+from .replies import Ok, Refused, Reply, Rows, merge_rows
 from .sides import FIRST_QUESTION, LAST_TIME, Asked, End, Fed, Handler, Link, Side, exchange, explained_end
 from .wording import counted, say
 
 #: So many commands may be under way in all; it bounds the memory for what isn't answered yet.
 _MOST_UNDER_WAY = 8_192
+#: The reply to `LAST_TIME` of an archive without changes, which may have the mark of batches.
+_NO_CHANGE = [Refused(4, "NoDocument", "")]
 
 
 def archives_in(folder: Path) -> list[Shard]:
@@ -56,6 +59,8 @@ class Collection:
         self._lock: Lock | None = None
         #: The door of the process that has the programs, where it isn't this one.
         self._door = ""
+        #: Which of the archives take batches, once they were asked.
+        self._batching: list[bool] = []
 
     def __enter__(self) -> Collection:
         try:
@@ -94,6 +99,27 @@ class Collection:
         """Handles the replies to everything sent."""
         while self._under_way():
             self._take(None)
+
+    def takes_batches(self, side: int) -> bool:
+        """Whether one of the archives may have batches, and its program carries them out. All are asked once."""
+        if not self._batching:
+            self.settle()
+            try:
+                self._batching = [isinstance(each, Fed) and each.takes_batches() for each in self._sides]
+            except ProgramFailed as failed:
+                self._start_again(failed)
+                self._batching = [False for _ in self._sides]
+        return self._batching[side]
+
+    def mark(self) -> None:
+        """Marks the archives as ones that may have batches, where their programs know the mark."""
+        try:
+            replies = self.ask_all(commands.mark())
+        except NotBuilt:
+            return
+        for reply in replies:
+            if not isinstance(reply, Ok) and not (isinstance(reply, Refused) and reply.name == "HasFormat"):
+                raise ProgramFailed(f"tt_archive answered {reply} to the mark of batches")
 
     def ask_side(self, side: int, question: bytes) -> Reply:
         return self._ask([side], question)[0]
@@ -134,16 +160,19 @@ class Collection:
                 self.send(side, question, [side], replies.__setitem__)
             self.settle()
         except ProgramFailed as failed:
-            # An older program takes a line that it doesn't know for a broken script, and ends.
-            if "script fault" in str(failed):
-                self._end()
-                self._start()
-                raise NotBuilt(question.split()[0].decode()) from failed
-            raise
+            self._start_again(failed)
+            raise NotBuilt(question.split()[0].decode()) from failed
         for reply in replies.values():
             if isinstance(reply, Refused) and reply.name == "Line":
                 raise NotBuilt(question.split()[0].decode())
         return [replies[side] for side in sides]
+
+    def _start_again(self, failed: ProgramFailed) -> None:
+        """An older program takes a line that it doesn't know for a broken script, and ends. Any other end is an error."""
+        if "script fault" not in str(failed):
+            raise failed
+        self._end()
+        self._start()
 
     @staticmethod
     def rows_of(reply: Reply) -> Rows:
@@ -266,7 +295,7 @@ class Collection:
         for link in list(side.copies):
             try:
                 # One that was level may have been lost, and made anew.
-                if link.shard in known and exchange(link, LAST_TIME, 1) == exchange(side.links[0], LAST_TIME, 1):
+                if link.shard in known and exchange(link, LAST_TIME, 1) == exchange(side.links[0], LAST_TIME, 1) != _NO_CHANGE:
                     continue
                 gained = self._levelled(number, side, link)
             except (ToolError, OSError) as error:
@@ -316,13 +345,15 @@ def latest(times: Iterable[int | None]) -> int | None:
     return max((time for time in times if time is not None), default=None)
 
 
-def make_archive(folder: Path, command: Sequence[str], claim: Claim) -> None:
-    """Makes the folder, an empty archive in it where there is none, and the tables beside it."""
+def make_archive(folder: Path, command: Sequence[str], claim: Claim, form: int | None) -> None:
+    """Makes the folder, an empty archive in it where there is none, and the tables beside it. An archive without changes has
+    format 2 unless 1 is asked for, and an older one gets it where it is asked for."""
     folder.mkdir(parents=True, exist_ok=True)
     for file in (NAMES, IMPORTS):
         (folder / file).touch()
-    with Collection(folder, command, claim):
-        pass
+    with Collection(folder, command, claim) as collection:
+        if form == 2 or (form is None and collection.last_time() is None):
+            collection.mark()
     descriptor = os.open(folder, os.O_RDONLY)
     try:
         os.fsync(descriptor)

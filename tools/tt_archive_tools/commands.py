@@ -2,6 +2,8 @@
 
 from __future__ import annotations
 
+from typing import Sequence
+
 from .errors import ToolError
 
 #: A document number that the tools never give. Its deletion is always refused, and the refusal
@@ -9,6 +11,8 @@ from .errors import ToolError
 NO_DOCUMENT = (1 << 32) - 1
 #: A text of more bytes is refused.
 MOST_TEXT = 4_194_304
+#: A batch has at most so many changes, whose texts have at most so many bytes together.
+MOST_OF_BATCH, MOST_BYTES_OF_BATCH = 1_000, 16_777_216
 #: A line of more bytes breaks the script.
 MOST_LINE = 4_096
 
@@ -25,8 +29,19 @@ def mark() -> bytes:
     return b"format 2\n"
 
 
+def batch(lines: Sequence[bytes]) -> bytes:
+    """Changes that come all at once, with one reply."""
+    return b"batch %d\n%b" % (len(lines), b"".join(lines))
+
+
 def show(doc: int, time: int) -> bytes:
     return b"show %d %d\n" % (doc, time)
+
+
+def asks_for_batches() -> bytes:
+    """A batch that every archive refuses, as its one item is the line of another: the reply says whether it may have batches.
+    A program that doesn't know them answers both lines. So a question behind them tells where the replies end."""
+    return b"batch 1\nbatch 1\n" + show(NO_DOCUMENT, 0)
 
 
 def find(time: int, expr: str) -> bytes:

@@ -140,4 +140,6 @@ def _command(entry: Entry) -> bytes:
         return commands.plan(entry.plan.word, entry.plan.form)
     if entry.marks:
         return commands.mark()
+    if entry.acts:
+        return commands.batch([_command(act) for act in entry.acts])
     return commands.arrive(entry.doc, entry.time, entry.text) if entry.arrives else commands.delete(entry.doc, entry.time)

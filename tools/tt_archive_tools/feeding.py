@@ -16,13 +16,10 @@ from .errors import ProgramFailed
 from .ledger import FILE as LEDGER
 from .ledger import Ledger
 from .replies import Gone, Ok, Refused, Reply, Text
+from .sending import Outbox
 from .times import show_time
 from .wording import counted
 
-#: Changes are sent in batches of so many, at first fewer, so that the program begins soon, or of so many
-#: bytes of text.
-_FIRST, _BATCH = 16, 256
-_BATCH_BYTES = 1 << 20
 #: So many bytes of text at most are read ahead before the first version is sent.
 _AHEAD_BYTES = 1 << 26
 
@@ -68,13 +65,17 @@ class Progress:
         """So many changes more were sent, the last of this time."""
         self._start = self._start if self._count else clock.monotonic()
         self._count += count
-        rate = self._count / max(clock.monotonic() - self._start, 0.001)
-        self.show(f"{self._count:,} changes, {show_time(at)}, {rate:,.0f} a second")
+        if self._is_due:
+            rate = self._count / max(clock.monotonic() - self._start, 0.001)
+            self.show(f"{self._count:,} changes, {show_time(at)}, {rate:,.0f} a second")
+
+    @property
+    def _is_due(self) -> bool:
+        return self._shown and clock.monotonic() - self._last >= 0.2
 
     def show(self, text: str) -> None:
-        now = clock.monotonic()
-        if self._shown and now - self._last >= 0.2:
-            self._last = now
+        if self._is_due:
+            self._last = clock.monotonic()
             sys.stderr.write(f"\r\x1b[K{text}")
             sys.stderr.flush()
 
@@ -110,9 +111,8 @@ class Feeder:
         self._refused_times: list[int] = []
         #: Of the second at which an earlier import ended, what the archive refused: it has a change of its own then.
         self._same: list[Change] = []
-        self._batch: list[Change] = []
-        self._most = _FIRST
-        self._bytes = 0
+        #: Feeders that feed together have one.
+        self.outbox = Outbox(collection, self._lasts, progress.step)
 
     def feed(self, changes: Iterable[Change]) -> None:
         others = [source for source in self._ledger.stopped() if source != self._source]
@@ -120,7 +120,7 @@ class Feeder:
             self._notes.tell(f"warning: an import was stopped; what shards miss of it is lost if it isn't imported first: {', '.join(others)}")
         for change in self.wanted(changes):
             self.take(change)
-        self.send()
+        self.outbox.send()
         self.finish()
 
     def wanted(self, changes: Iterable[Change]) -> Iterator[Change]:
@@ -147,7 +147,7 @@ class Feeder:
 
     def finish(self) -> None:
         """Waits for the replies, and notes and counts how far the source was imported."""
-        self._collection.settle()
+        self.outbox.settle()
         self._note()
         for change in self._same:
             if not self._has(change):
@@ -214,40 +214,18 @@ class Feeder:
         self._ledger.end(self._source, last, until_last, not self.tally.refused_all)
 
     def take(self, change: Change) -> None:
-        """Puts the change into the batch, and sends that where it is full."""
+        """Has the change sent, soon or with others."""
         if len(change.text or b"") > commands.MOST_TEXT:
             # The archive would refuse it, by its length alone.
             self._refuse(self._sent(change), Refused(5, "TooLong", str(commands.MOST_TEXT)))
             return
-        self._batch.append(change)
-        self._bytes += len(change.text or b"")
-        if len(self._batch) >= self._most or self._bytes >= _BATCH_BYTES:
-            self.send()
+        self._put(change)
 
-    def send(self) -> None:
-        """Makes the names of the batch durable, and then sends it."""
-        if not self._batch:
-            return
-        self.begin()
-        names, side_of = self._collection.names, self._collection.side_of
-        scripts: dict[int, tuple[list[bytes], list[_Sent]]] = {}
-        for change in self._batch:
-            doc = names.give(change.name)
-            lines, sent = scripts.setdefault(side_of(doc), ([], []))
-            if change.text is None:
-                lines.append(commands.delete(doc, change.time))
-            else:
-                lines.append(commands.arrive(doc, change.time, change.text))
-            sent.append(self._sent(change))
-        names.keep()
-        for side, (lines, sent) in scripts.items():
-            self._collection.send(side, b"".join(lines), sent, self._answered)
-        self._progress.step(len(self._batch), self._batch[-1].time)
-        self._batch.clear()
-        self._most = min(2 * self._most, _BATCH)
-        self._bytes = 0
+    def _put(self, change: Change) -> None:
+        self.outbox.put(change, self._sent(change), self)
 
-    def _answered(self, sent: _Sent, reply: Reply) -> None:
+    def answered(self, sent: _Sent, reply: Reply) -> None:
+        """Tells and counts what came of a change."""
         match reply:
             case Ok():
                 self._behind += sent.again is not None and not sent.maybe
@@ -276,16 +254,12 @@ class Feeder:
 def feed_together(streams: Sequence[tuple[Feeder, Iterable[Change]]]) -> None:
     """Feeds what each of the feeders wants, in one order of time over all."""
     for feeder, _ in streams:
+        feeder.outbox = streams[0][0].outbox
         feeder.begin(beside=feeder is not streams[0][0])
-    before = None
     for feeder, change in merge(*(_tagged(*stream) for stream in streams), key=lambda pair: pair[1].time):
-        if before and before is not feeder:
-            before.send()
-        before = feeder
         feeder.take(change)
-    if before:
-        before.send()
     for feeder, _ in streams:
+        feeder.outbox.send()
         feeder.finish()
 
 

@@ -20,7 +20,7 @@ from .wording import counted, one_line
 
 
 def init(options: argparse.Namespace) -> None:
-    make_archive(options.folder, find_program(options.program), claim_of(options))
+    make_archive(options.folder, find_program(options.program), claim_of(options), options.format)
     print(f"an archive is in {options.folder}")
 
 
@@ -30,8 +30,8 @@ def shard(options: argparse.Namespace) -> None:
     command, claim = find_program(options.program), claim_of(options)
     if options.empty:
         make_shards(options.into, options.count)
-        with Collection(options.into, command, claim):
-            pass
+        with Collection(options.into, command, claim) as shards:
+            _mark(shards, options)
         print(f"{counted(options.count, 'empty archive')}, in {options.into}")
         return
     with archive_of(options, Use.CHANGES) as archive:
@@ -39,8 +39,14 @@ def shard(options: argparse.Namespace) -> None:
             raise ToolError(f"{options.archive} is split already")
         make_shards(options.into, options.count)
         with Collection(options.into, command, claim) as shards:
+            _mark(shards, options)
             entries = split(archive, shards)
     print(f"{entries} versions and deletions are in {counted(options.count, 'archive')} in {options.into}")
+
+
+def _mark(shards: Collection, options: argparse.Namespace) -> None:
+    if options.format != 1:
+        shards.mark()
 
 
 def import_from(source: Source, options: argparse.Namespace) -> None:

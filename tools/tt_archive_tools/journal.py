@@ -14,8 +14,8 @@ from .program import JOURNAL, PAGES, Shard
 HEADER = b"TIMETRAVELTEXT\x00\x01"
 _OPEN = b"\xa5"
 _PAGE = 4_096
-_ARRIVE, _DELETE, _PLAN, _MARK = 1, 2, 3, 5
-#: The length of an entry, its tag, and what follows it in an arrival and a deletion.
+_ARRIVE, _DELETE, _PLAN, _BATCH, _MARK = 1, 2, 3, 4, 5
+#: The length of an entry, or of a change in a batch, its tag, and what follows it in an arrival and a deletion.
 _HEAD = struct.Struct(">IBIQ")
 #: The kinds of plans, as a script writes them.
 _KINDS = {1: "guarantee {}/{}", 2: "space {}/{} uniform", 3: "space {}/{} since {}"}
@@ -37,8 +37,8 @@ class StoredPlan:
 
 
 class Entry(NamedTuple):
-    """An arrival (with its text, where texts are read), a deletion, a plan, or the mark of a journal that may have
-    batches. The last two have no document."""
+    """An arrival (with its text, where texts are read), a deletion, a plan, a batch, or the mark of a journal that may have
+    batches. The last three have no document."""
 
     tag: int
     doc: int
@@ -48,6 +48,8 @@ class Entry(NamedTuple):
     #: Where the text (or what a plan has behind its first 13 bytes) stands in the journal, and how many bytes it has.
     at: int = 0
     size: int = 0
+    #: The changes of a batch.
+    acts: tuple[Entry, ...] = ()
 
     @property
     def after(self) -> int:
@@ -73,12 +75,13 @@ class Entry(NamedTuple):
 
 
 def entries(folder: Path, texts: bool) -> Iterator[Entry]:
-    """The entries in order. Without texts only the heads are read."""
+    """The entries in order, and of a batch its changes. Without texts only the heads are read."""
     path = folder / JOURNAL
     try:
         with open(path, "rb") as file:
             if path.stat().st_size > len(HEADER) + 1:
-                yield from _records(file, path, texts)
+                for entry in _records(file, path, texts):
+                    yield from entry.acts or (entry,)
     except OSError as error:
         raise InputError(str(path), error.strerror or str(error)) from None
 
@@ -102,9 +105,20 @@ def heads(folder: Path) -> Iterator[tuple[int, int, bool]]:
                         yield doc, time, tag == _ARRIVE
                     else:
                         length = _number(data, gate + 1, 4)
+                        if data[gate + 5] == _BATCH:
+                            yield from _heads_of_batch(data, gate + 6)
                     gate += 5 + length
     except (OSError, IndexError, struct.error) as error:
         raise InputError(str(path), getattr(error, "strerror", None) or str(error)) from None
+
+
+def _heads_of_batch(data: mmap.mmap, at: int) -> Iterator[tuple[int, int, bool]]:
+    """The same of the changes of a batch, whose number stands at a place."""
+    count, at = _number(data, at, 4), at + 4
+    for _ in range(count):
+        length, tag, doc, time = _HEAD.unpack_from(data, at)
+        yield doc, time, tag == _ARRIVE
+        at += 4 + length
 
 
 def history(folder: Path, doc: int) -> list[Entry]:
@@ -143,11 +157,30 @@ def entries_from(file: BinaryIO, gate: int, path: str, texts: bool) -> Iterator[
         if tag == _MARK:
             yield Entry(tag, 0, 0, b"", at=body + len(head), size=rest)
             continue
+        if tag == _BATCH:
+            yield Entry(tag, 0, 0, b"", at=body + len(head), size=rest, acts=tuple(_acts(file, head, body, texts)))
+            continue
         text = file.read(rest) if texts else b""
         if not texts:
             file.seek(rest, 1)
         doc, time = int.from_bytes(head[1:5], "big"), int.from_bytes(head[5:13], "big")
         yield Entry(tag, doc, time, text, at=body + len(head), size=rest)
+
+
+def _acts(file: BinaryIO, begin: bytes, body: int, texts: bool) -> Iterator[Entry]:
+    """The changes of a batch that begins with these bytes, behind which the file stands."""
+    ahead, at = begin[5:], body + 5
+    for _ in range(_number(begin, 1, 4)):
+        head = ahead + file.read(_HEAD.size - len(ahead))
+        if len(head) < _HEAD.size:
+            return
+        length, tag, doc, time = _HEAD.unpack(head)
+        size, ahead = length + 4 - _HEAD.size, b""
+        text = file.read(size) if texts else b""
+        if not texts:
+            file.seek(size, 1)
+        yield Entry(tag, doc, time, text, at=at + _HEAD.size, size=size)
+        at += 4 + length
 
 
 def _plan(body: bytes, path: str) -> StoredPlan:

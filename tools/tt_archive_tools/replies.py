@@ -28,6 +28,17 @@ class Refused(NamedTuple):
         return f"{self.name} {self.detail}".rstrip()
 
     @property
+    def item(self) -> int | None:
+        """The item of a batch that is refused, counted from 1; None where the batch is refused as a whole."""
+        words = self.detail.split()
+        return int(words[-1]) if words[-2:-1] == ["in"] else None
+
+    @property
+    def alone(self) -> Refused:
+        """The refusal that the item of a batch has by itself."""
+        return self if self.item is None else self._replace(detail=" ".join(self.detail.split()[:-2]))
+
+    @property
     def meaning(self) -> str:
         """What a plan's refusal says to a keeper."""
         match self.name:

@@ -15,7 +15,7 @@ from . import commands
 from .errors import InUse, ProgramFailed, ToolError
 from .places import Places
 from .program import AT_WORK, Shard
-from .replies import Refused, Reply
+from .replies import Gone, Refused, Reply
 from .times import show_time
 from .wording import say
 
@@ -223,6 +223,16 @@ class Fed(Side):
         self._leave(copy)
         self._strike(copy.shard, why)
 
+    def takes_batches(self) -> bool:
+        """Whether all its places do. Nothing else is under way."""
+        found = []
+        for link in list(self.links):
+            try:
+                found.append(takes_batches(link))
+            except ProgramFailed as failed:
+                self._lost(link, failed)
+        return all(found)
+
     @property
     def copies(self) -> list[Link]:
         """The copies that are there, if the first place is."""
@@ -273,15 +283,24 @@ def end_of(question: bytes) -> int | None:
     return None
 
 
+def takes_batches(link: Link) -> bool:
+    """Whether a program carries batches out, and its journal has the mark. Nothing else is under way in it."""
+    return Refused(16, "BatchLine", "1") in _exchange(link, commands.asks_for_batches(), lambda replies: Gone() in replies)
+
+
 def exchange(link: Link, script: bytes, count: int) -> list[Reply]:
     """The replies of one link to commands; nothing else is under way in it."""
-    import select  # loaded where copies are
+    return _exchange(link, script, lambda replies: len(replies) >= count)
+
+
+def _exchange(link: Link, script: bytes, are_all: Callable[[list[Reply]], bool]) -> list[Reply]:
+    import select  # loaded where something is changed
 
     poll = select.poll()
     poll.register(link.fileno(), select.POLLIN)
     rest = memoryview(script)
     replies: list[Reply] = []
-    while len(replies) < count:
+    while not are_all(replies):
         rest = link.write(rest)
         if poll.poll(0 if rest else None):
             replies += replies_of(link)

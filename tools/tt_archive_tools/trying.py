@@ -47,13 +47,9 @@ class Trier(Feeder):
             f"documents  {len(names)}: {', '.join(names[:_MOST_NAMES])}{more}",
         ]
 
-    def send(self) -> None:
-        for change in self._batch:
-            self._answered(self._sent(change), self._reply(change))
-        if self._batch:
-            self._progress.step(len(self._batch), self._batch[-1].time)
-        self._batch.clear()
-        self._bytes = 0
+    def _put(self, change: Change) -> None:
+        self.answered(self._sent(change), self._reply(change))
+        self._progress.step(1, change.time)
 
     def _note(self) -> None:
         """Nothing is noted."""

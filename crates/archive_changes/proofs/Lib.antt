@@ -1,3 +1,4 @@
 mod AddLemmas
 mod TakeLemmas
+mod BatchLemmas
 mod PlanLemmas

@@ -1,10 +1,12 @@
 -- How the calls that change an archive end.
-use Rattle.std.specs.Prelude.{ℕ, Result, Ok, Err}
-use Rattle.model_archive.specs.Steps.{Accepted, Refused, Planned}
+use Rattle.std.specs.Prelude.{ℕ, None, Result, Ok, Err}
+use Rattle.model_archive.specs.Steps.{Accepted, Refused, Planned, refused_for}
 use Rattle.archive_plans.specs.declared.readying.PlanReport.{PlanReport}
 use Rattle.archive_plans.specs.Readying.{summary_of}
 use Rattle.archive_hand.specs.declared.error.ChangeError.{ChangeError}
 use Rattle.archive_hand.specs.declared.error.ChangeError.TheVariants as changes
+use Rattle.archive_changes.specs.declared.error.BatchError.{BatchError}
+use Rattle.archive_changes.specs.declared.error.BatchError.TheVariants as batches
 use Rattle.archive_hand.specs.Takes.{Ending, Replied, Starved, Faulted}
 
 -- how changes end
@@ -20,3 +22,37 @@ changed (Err error) = unchanged error
 abbrev pub planned : Result PlanReport ChangeError → Ending
 planned (Ok report) = Replied (Planned (summary_of report))
 planned (Err error) = unchanged error
+
+-- ---- batches
+
+-- an error for a whole batch
+abbrev pub for_whole : ChangeError → BatchError
+for_whole (changes.Refused why) = batches.Refused why None
+for_whole changes.Failed = batches.Failed
+for_whole changes.Memory = batches.Memory
+
+-- how a batch ends for which nothing was refused but the whole
+abbrev pub as_whole : Result ℕ ChangeError → Result ℕ BatchError
+as_whole (Ok length) = Ok length
+as_whole (Err error) = Err (for_whole error)
+
+-- the error of a batch, with the number of the item left out
+abbrev pub plain_error : BatchError → ChangeError
+plain_error (batches.Refused why index) = changes.Refused why
+plain_error batches.Failed = changes.Failed
+plain_error batches.Memory = changes.Memory
+
+-- what a batch ends with, with the number of the item left out
+abbrev pub plainly : Result ℕ BatchError → Result ℕ ChangeError
+plainly (Ok length) = Ok length
+plainly (Err error) = Err (plain_error error)
+
+-- how batches end
+abbrev pub unmade : BatchError → Ending
+unmade (batches.Refused why index) = Replied (refused_for why index)
+unmade batches.Failed = Faulted
+unmade batches.Memory = Starved
+
+abbrev pub changed_all : Result ℕ BatchError → Ending
+changed_all (Ok length) = Replied (Accepted length)
+changed_all (Err error) = unmade error

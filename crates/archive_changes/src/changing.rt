@@ -11,6 +11,7 @@ ghost use Rattle.archive_changes.specs.Endings.{changed};
 ghost use Rattle.journal_entries.specs.declared.entry.Entry.{Entry};
 ghost use Rattle.archive_changes.specs.Adding.{Adds};
 ghost use Rattle.archive_changes.specs.After.{AfterChange};
+ghost use Rattle.archive_hand.specs.Adding.{IsSpent};
 ghost use Rattle.archive_entries.specs.Entries.{IsPrepared};
 ghost use Rattle.lists_versions.specs.Refusals.{change_refusal};
 ghost use Rattle.journal_entries.specs.declared.entry.Entry.TheVariants as entries;
@@ -45,7 +46,7 @@ pub fn arrive<D: Disk>(
     requires live { IsTrue archive.old.live }
     requires within { Reaches (D.disk disk.old).reach archive.old }
     ensures only { D.Disk.only disk.old disk.new }
-    ensures after { AfterChange D.disk_tells ((archive.new ≡ archive.old) × (disk.new ≡ disk.old)) (disk.new ≡ disk.old) result (D.disk disk.old) (D.disk disk.new) archive.old archive.new }
+    ensures after { AfterChange IsSpent D.disk_tells ((archive.new ≡ archive.old) × (disk.new ≡ disk.old)) (disk.new ≡ disk.old) result (D.disk disk.old) (D.disk disk.new) archive.old archive.new }
     // On any disk: a refusal is the first cause in order, comes wherever there is one (unless memory runs out), and changes nothing; at Ok
     // the archive stands for the history with the new entry, and answers how many entries there are.
     ensures adds { (h : History) → StandsFor archive.old h → Adds h (entries.Arrive doc at text.now) (arrival_refusal h doc at text.now) result archive.new }
@@ -77,7 +78,7 @@ pub fn delete<D: Disk>(
     requires live { IsTrue archive.old.live }
     requires within { Reaches (D.disk disk.old).reach archive.old }
     ensures only { D.Disk.only disk.old disk.new }
-    ensures after { AfterChange D.disk_tells ((archive.new ≡ archive.old) × (disk.new ≡ disk.old)) (disk.new ≡ disk.old) result (D.disk disk.old) (D.disk disk.new) archive.old archive.new }
+    ensures after { AfterChange IsSpent D.disk_tells ((archive.new ≡ archive.old) × (disk.new ≡ disk.old)) (disk.new ≡ disk.old) result (D.disk disk.old) (D.disk disk.new) archive.old archive.new }
     // On any disk: a refusal is the first cause in order, comes wherever there is one (unless memory runs out), and changes nothing; at Ok
     // the archive stands for the history with the new entry, and answers how many entries there are.
     ensures adds { (h : History) → StandsFor archive.old h → Adds h (entries.Delete doc at) (deletion_refusal h doc at) result archive.new }
@@ -103,7 +104,7 @@ pub fn mark_format<D: Disk>(
     requires live { IsTrue archive.old.live }
     requires within { Reaches (D.disk disk.old).reach archive.old }
     ensures only { D.Disk.only disk.old disk.new }
-    ensures after { AfterChange D.disk_tells ((archive.new ≡ archive.old) × (disk.new ≡ disk.old)) (disk.new ≡ disk.old) result (D.disk disk.old) (D.disk disk.new) archive.old archive.new }
+    ensures after { AfterChange IsSpent D.disk_tells ((archive.new ≡ archive.old) × (disk.new ≡ disk.old)) (disk.new ≡ disk.old) result (D.disk disk.old) (D.disk disk.new) archive.old archive.new }
     // On any disk: a refusal is the first cause in order, comes wherever there is one (unless memory runs out), and changes nothing; at Ok
     // the archive stands for the history with the new entry, and answers how many entries there are.
     ensures adds { (h : History) → StandsFor archive.old h → Adds h entries.Format (mark_refusal h) result archive.new }
@@ -127,7 +128,7 @@ fn add<D: Disk>(
     requires allowed { IfOk prepared (λ p. change_refusal p.change archive.old.changes ≡ None) }
     requires next { (h : History) → StandsFor archive.old h → (entry : Entry) × (refusal : Option Refusal) × IsPrepared h archive.old.index entry refusal prepared }
     ensures only { D.Disk.only disk.old disk.new }
-    ensures after { AfterChange D.disk_tells ((archive.new ≡ archive.old) × (disk.new ≡ disk.old)) (disk.new ≡ disk.old) result (D.disk disk.old) (D.disk disk.new) archive.old archive.new }
+    ensures after { AfterChange IsSpent D.disk_tells ((archive.new ≡ archive.old) × (disk.new ≡ disk.old)) (disk.new ≡ disk.old) result (D.disk disk.old) (D.disk disk.new) archive.old archive.new }
     ensures adds { (h : History) (entry : Entry) (refusal : Option Refusal) → StandsFor archive.old h → IsPrepared h archive.old.index entry refusal prepared → Adds h entry refusal result archive.new }
     ensures by_reads { D.disk_tells → (s : Store) (entry : Entry) (refusal : Option Refusal) → AreInStepBy (D.disk disk.old) archive.old s → IsPrepared s.history archive.old.index entry refusal prepared →
         LeadsBy s (with_entry s entry s.pages archive.new (D.disk disk.new)) (D.disk disk.old) (D.disk disk.new)

@@ -9,6 +9,7 @@ ghost use Rattle.archive_hand.specs.Takes.{TakesBy};
 ghost use Rattle.archive_changes.specs.Endings.{planned};
 ghost use Rattle.archive_plans.specs.Readying.{summary_of};
 ghost use Rattle.archive_changes.specs.After.{AfterChange};
+ghost use Rattle.archive_hand.specs.Adding.{IsSpent};
 ghost use Rattle.base_commands.specs.declared.command.Command.TheVariants as commands;
 ghost use Rattle.base_commands.specs.declared.command.Item.TheVariants as items;
 ghost use Rattle.plans_kinds.specs.Plans.{IsCostOf, IsGoodPlan, plan_space};
@@ -48,7 +49,7 @@ pub fn plan<D: Disk>(
     requires live { IsTrue archive.old.live }
     requires within { Reaches (D.disk disk.old).reach archive.old }
     ensures only { D.Disk.only disk.old disk.new }
-    ensures after { AfterChange D.disk_tells (disk.new ≡ disk.old) (disk.new ≡ disk.old) result (D.disk disk.old) (D.disk disk.new) archive.old archive.new }
+    ensures after { AfterChange IsSpent D.disk_tells (disk.new ≡ disk.old) (disk.new ≡ disk.old) result (D.disk disk.old) (D.disk disk.new) archive.old archive.new }
     // On any disk, whatever history it stood for: a refusal has its cause there, and comes wherever there is one (unless memory runs out); at Ok
     // the archive stands for a history with a plan that may be stored.
     ensures refused { (h : History) → StandsFor archive.old h → (why : Refusal) → IsErrOf result (ChangeError.Refused why) → Plans h word.now kind factor (Refused why) h × StandsFor archive.new h }

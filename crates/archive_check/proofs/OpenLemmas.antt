@@ -1,5 +1,5 @@
 -- What a check asks of an archive that is opened: that texts lie in front of the journal's end, and that each plan has its places, inside Pages.
-use Rattle.std.proofs.Common.{◌≡◌, ℕ, ◌+◌, ◌≤◌, List, [], ◌∷◌, ◌++◌, length, map, filter, sum_by, All, Option, Some, None, subst, sym, arith}
+use Rattle.std.proofs.Common.{◌≡◌, ℕ, ◌+◌, ◌≤◌, List, [], ◌∷◌, ◌++◌, length, map, filter, sum_by, All, Option, Some, None, subst, sym, arith, length-append}
 use Rattle.std.specs.Option.{option_map}
 use Rattle.std.specs.List.{flat_map}
 use Rattle.std.proofs.lemmas.List.Elements.{All-nil, All-cons, All-head, All-tail, All-append, All-filter}
@@ -10,14 +10,17 @@ use Rattle.lists_versions.specs.declared.change.Change.{Change}
 use Rattle.lists_versions.specs.Changes.{mapped}
 use Rattle.journal_entries.specs.Spelling.{spelling}
 use Rattle.journal_entries.specs.PlanSpelling.{IsPlanEntry}
+use Rattle.journal_entries.specs.Acts.{act_bytes, acts_bytes, batch_front, batch_spelling}
+use Rattle.journal_entries.specs.declared.act.Act.{Act}
+use Rattle.journal_entries.specs.declared.act.Act.TheVariants as batched
 use Rattle.journal_entries.specs.declared.entry.Entry.{Entry}
-use Rattle.journal_entries.specs.declared.entry.Entry.TheVariants.{Arrive, Delete, Planned, Format}
+use Rattle.journal_entries.specs.declared.entry.Entry.TheVariants.{Arrive, Delete, Planned, Format, Batch}
 use Rattle.plans_kinds.specs.Plans.{IsFitFor}
 use Rattle.model_archive.specs.declared.stored.StoredPlan.{StoredPlan}
 use Rattle.model_archive.specs.Histories.{History, end_of}
 use Rattle.model_archive.specs.Legal.{EachMayCome, IsLoadable}
 use Rattle.model_archive.specs.Plans.{is_another, live_after, live_plans, live_extents, with_plan, extents_of}
-use Rattle.archive_entries.specs.Places.{ArePlaced, pair_of, placed_by, places}
+use Rattle.archive_entries.specs.Places.{ArePlaced, pair_of, placed_acts, placed_by, places}
 use Rattle.archive_entries.specs.Texts.{LiesIn}
 use Rattle.archive_check.specs.Verdicts.{LiesInside}
 use Rattle.archive_check.proofs.HeldLemmas.{extents_split}
@@ -39,11 +42,29 @@ pairs_lie end (c ∷ cs) lie =
     let B : Change (ℕ × ℕ) → Type 0 = λ d. LiesBy end d.held in
     All-cons (λ d. LiesIn end d.held) c cs (lies_held end c.held (All-head B (mapped pair_of c) (map (mapped pair_of) cs) lie)) (pairs_lie end cs (All-tail B (mapped pair_of c) (map (mapped pair_of) cs) lie))
 
+acts_lie : (end at : ℕ) (batch : List Act) → at + length (acts_bytes batch) ≤ end → All (λ c. LiesBy end c.held) (placed_acts at batch)
+acts_lie end at [] within = All-nil (λ c. LiesBy end c.held)
+acts_lie end at (batched.Arrive doc t text ∷ batch) within =
+    let act = batched.Arrive doc t text in
+    let more = length-append (act_bytes act) (acts_bytes batch) in
+    let then = at + length (act_bytes act) in
+    All-cons (λ c. LiesBy end c.held) _ (placed_acts then batch) (omega (arith, within, more)) (acts_lie end then batch (omega (arith, within, more)))
+acts_lie end at (batched.Delete doc t ∷ batch) within =
+    let act = batched.Delete doc t in
+    let more = length-append (act_bytes act) (acts_bytes batch) in
+    let then = at + length (act_bytes act) in
+    All-cons (λ c. LiesBy end c.held) _ (placed_acts then batch) tt (acts_lie end then batch (omega (arith, within, more)))
+
+batch_long : (batch : List Act) → length (spelling (Batch batch)) ≡ 5 + length (acts_bytes batch)
+unfolding batch_spelling
+batch_long batch = omega (arith, length-append (batch_front (length batch)) (acts_bytes batch))
+
 one_lies : (end gate : ℕ) (e : Entry) → gate + 5 + length (spelling e) ≤ end → All (λ c. LiesBy end c.held) (placed_by gate e)
 one_lies end gate (Arrive doc t text) within = All-cons (λ c. LiesBy end c.held) _ [] (omega (arith, within)) (All-nil (λ c. LiesBy end c.held))
 one_lies end gate (Delete doc t) within = All-cons (λ c. LiesBy end c.held) _ [] tt (All-nil (λ c. LiesBy end c.held))
 one_lies end gate (Planned plan) within = All-nil (λ c. LiesBy end c.held)
 one_lies end gate Format within = All-nil (λ c. LiesBy end c.held)
+one_lies end gate (Batch batch) within = acts_lie end (gate + 10) batch (omega (arith, within, batch_long batch))
 
 places_lie : (end gate : ℕ) (h : History) → gate + sum_by (λ (x : Entry). length (spelling x) + 5) h ≤ end → All (λ c. LiesBy end c.held) (places gate h)
 places_lie end gate [] within = All-nil (λ c. LiesBy end c.held)
@@ -68,6 +89,7 @@ live_entries before gate live [] each all = all
 live_entries before gate live (Arrive doc at text ∷ h) each all = live_entries (before ++ Arrive doc at text ∷ []) (gate + 5 + length (spelling (Arrive doc at text))) live h each.1 all
 live_entries before gate live (Delete doc at ∷ h) each all = live_entries (before ++ Delete doc at ∷ []) (gate + 5 + length (spelling (Delete doc at))) live h each.1 all
 live_entries before gate live (Format ∷ h) each all = live_entries (before ++ Format ∷ []) (gate + 5 + length (spelling Format)) live h each.1 all
+live_entries before gate live (Batch batch ∷ h) each all = live_entries (before ++ Batch batch ∷ []) (gate + 5 + length (spelling (Batch batch))) live h each.1 all
 live_entries before gate live (Planned plan ∷ h) each all =
     let new : StoredPlan = record { gate = gate; plan = plan } in
     live_entries (before ++ Planned plan ∷ []) (gate + 5 + length (spelling (Planned plan))) (with_plan live new) h each.1

@@ -13,8 +13,11 @@ use Rattle.pages_area.specs.Ranges.{bytes_in}
 use Rattle.lists_versions.specs.declared.change.Change.{Change}
 use Rattle.lists_index.specs.Words.{words_in}
 use Rattle.plans_kinds.specs.Plans.{IsFitFor, IsLeastPlan}
+use Rattle.journal_entries.specs.Acts.{IsAct}
+use Rattle.journal_entries.specs.declared.act.Act.{Act}
+use Rattle.journal_entries.specs.declared.act.Act.TheVariants as batched
 use Rattle.journal_entries.specs.declared.entry.Entry.{Entry}
-use Rattle.journal_entries.specs.declared.entry.Entry.TheVariants.{Arrive, Delete, Planned, Format}
+use Rattle.journal_entries.specs.declared.entry.Entry.TheVariants.{Arrive, Delete, Planned, Format, Batch}
 use Rattle.journal_entries.specs.declared.place.Layout.{Layout}
 use Rattle.journal_entries.specs.declared.place.Place.{Place}
 use Rattle.journal_entries.specs.declared.plan.PlanEntry.{PlanEntry}
@@ -25,7 +28,7 @@ use Rattle.model_archive.specs.declared.stored.StoredPlan.{StoredPlan}
 use Rattle.model_archive.specs.declared.verdict.Verdict.{Verdict}
 use Rattle.model_archive.specs.declared.verdict.Verdict.TheVariants.{Sound, Differs, NotLeast, BadText}
 use Rattle.model_archive.specs.Answers.{frequency_at}
-use Rattle.model_archive.specs.Histories.{History, acts, changes}
+use Rattle.model_archive.specs.Histories.{History, acts, change_by, changes}
 use Rattle.model_archive.specs.Holding.{HoldsPlan}
 use Rattle.model_archive.specs.Legal.{MayBePlanned, MayCome, EachMayCome, IsLoadable}
 use Rattle.model_archive.specs.Planning.{IsListUpTo}
@@ -46,11 +49,20 @@ use Rattle.archive_check.proofs.LawLemmas.{not_the_same, bad_unread, verdicts_ar
 -- ---- a history that loads
 
 -- its texts are UTF-8
+act_text : (act : Act) → IsAct act → IsText (change_by act)
+act_text (batched.Arrive doc at text) ranges = ranges.3
+act_text (batched.Delete doc at) ranges = tt
+
+batch_texts : (batch : List Act) → All IsAct batch → All IsText (map change_by batch)
+batch_texts [] each = All-nil IsText
+batch_texts (act ∷ batch) each = All-cons IsText (change_by act) (map change_by batch) (act_text act (All-head IsAct act batch each)) (batch_texts batch (All-tail IsAct act batch each))
+
 entry_text : (before : History) (e : Entry) → MayCome IsFitFor before e → All IsText (acts e)
 entry_text before (Arrive doc at text) may = All-cons IsText _ [] may.ranges.3 (All-nil IsText)
 entry_text before (Delete doc at) may = All-cons IsText _ [] tt (All-nil IsText)
 entry_text before (Planned plan) may = All-nil IsText
 entry_text before Format may = All-nil IsText
+entry_text before (Batch batch) may = batch_texts batch may.ranges.each
 
 texts_good : (before h : History) → EachMayCome IsFitFor before h → All IsText (changes h)
 texts_good before [] each = All-nil IsText

@@ -295,15 +295,6 @@ all_acts (members.Arrive doc t text ∷ items) at none = omega (arith, all_acts 
 all_acts (members.Delete doc t ∷ items) at none = omega (arith, all_acts items (at + 1) none)
 all_acts (members.Other ∷ items) at none = absurd cc
 
--- one that isn't the first other one is passed over
-pub other_step : (items : List BatchItem) (i : ℕ) (item : BatchItem) → i < length items → item ≡ get_or items i item → (item ≡ members.Other → ⊥) → first_other (i + 1) (drop i items) ≡ first_other (i + 1 + 1) (drop (i + 1) items)
-other_step items i item within is other = ap (first_other (i + 1)) (items_left items i item within is) ∙ go item other
-  where
-    go : (x : BatchItem) → (x ≡ members.Other → ⊥) → first_other (i + 1) (x ∷ drop (i + 1) items) ≡ first_other (i + 1 + 1) (drop (i + 1) items)
-    go (members.Arrive doc t text) apart = refl
-    go (members.Delete doc t) apart = refl
-    go members.Other apart = absurd (apart refl)
-
 -- ---- a batch that may come next
 
 -- how many bytes it has

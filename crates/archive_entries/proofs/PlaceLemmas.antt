@@ -12,7 +12,7 @@ use Rattle.lists_versions.specs.Changes.{mapped}
 use Rattle.lists_versions.specs.Refusals.{arrive_refusal, delete_refusal}
 use Rattle.lists_versions.proofs.Mapped.{arrive_refusal-mapped, delete_refusal-mapped}
 use Rattle.journal_entries.specs.Spelling.{spelling}
-use Rattle.journal_entries.specs.Acts.{act_spelling, act_bytes, acts_bytes, alone, batch_front, batch_spelling}
+use Rattle.journal_entries.specs.Acts.{act_spelling, act_bytes, acts_bytes, batch_front, batch_spelling}
 use Rattle.journal_entries.specs.declared.act.Act.{Act}
 use Rattle.journal_entries.specs.declared.act.Act.TheVariants as batched
 use Rattle.journal_entries.specs.declared.entry.Entry.{Entry}
@@ -135,23 +135,6 @@ makes_bare (Delete doc t) x held at makes is =
 makes_bare (Planned plan) x held at makes is = absurd makes
 makes_bare Format x held at makes is = absurd makes
 makes_bare (Batch batch) x held at makes is = absurd makes
-
--- a change that an act makes, with its text's place
-act_held : (act : Act) (at : ℕ) (x : Change ℕ) (held : Option TextPlace) → Makes (alone act) x → IsHeld (at + 17) x.held held → map (mapped pair_of) (record { doc = x.doc; at = x.at; held = held } ∷ []) ≡ placed_act at act ∷ []
-act_held (batched.Arrive doc t text) at x held makes is =
-    let one = makes.0 in let two = makes.1 in
-    let there : option_map pair_of held ≡ Some (at + 17, length text) = is ∙ ap (λ (o : Option ℕ). option_map (λ n. (at + 17, n)) o) makes.2 in
-    cc
-act_held (batched.Delete doc t) at x held makes is =
-    let one = makes.0 in let two = makes.1 in
-    let none : option_map pair_of held ≡ None = is ∙ ap (λ (o : Option ℕ). option_map (λ n. (at + 17, n)) o) makes.2 in
-    cc
-
-pub act_placed : (act : Act) (at : ℕ) (x : Change ℕ) (held : Option TextPlace) (cs more : List (Change TextPlace)) → Makes (alone act) x → IsHeld (at + 17) x.held held
-    → more ≡ cs ++ record { doc = x.doc; at = x.at; held = held } ∷ [] → map (mapped pair_of) more ≡ map (mapped pair_of) cs ++ placed_act at act ∷ []
-act_placed act at x held cs more makes is pushed =
-    let one = record { doc = x.doc; at = x.at; held = held } ∷ [] in
-    ap (λ (l : List (Change TextPlace)). map (mapped pair_of) l) pushed ∙ map-append (mapped pair_of) cs one ∙ ap (λ (l : List (Change (ℕ × ℕ))). map (mapped pair_of) cs ++ l) (act_held act at x held makes is)
 
 -- the changes of a batch come behind those of the entries before it
 pub placed_batch : (h : History) (cs more : List (Change TextPlace)) (batch : List Act) (gate : ℕ) → ArePlaced 16 h cs → end_of h ≡ gate + 1 → map (mapped pair_of) more ≡ map (mapped pair_of) cs ++ placed_acts (gate + 10) batch

@@ -183,12 +183,6 @@ gone_over gate h e x held cs more plans others loader reached ranges makes may m
 pub faulty : (gate : ℕ) (h : History) (e : Entry) (at : ℕ) → IsEntry e → (entry_refusal h e ≡ None → ⊥) → at ≡ gate → IsFaulty gate h (spelling e) at
 faulty gate h e at ranges refused here = inr (record { entry = e; ranges = ranges; spelled = refl; refused = λ may. refused may.allowed }, here)
 
--- where nothing more is loaded
-pub none_ahead : (h : History) (loader after : Loaded) → AreLoaded loader (changes h) → after ≡ loader → HasAhead h after
-none_ahead h loader after loads same =
-    let L : Loaded → Type 0 = λ l. AreLoaded l (changes h) in
-    record { ahead = []; allowed = tt; loads = subst (λ (g : History). AreLoaded after (changes g)) (sym (append-nil h)) (subst L (sym same) loads) }
-
 -- ---- a batch
 
 -- a batch that isn't refused

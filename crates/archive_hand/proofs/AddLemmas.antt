@@ -1,6 +1,6 @@
 -- What an archive stands for with an entry more, and what stays so on its disk.
-use Rattle.std.proofs.Common.{◌≡◌, ◌⊎◌, ℕ, ◌+◌, ◌-◌, ◌≤◌, true, false, None, List, [], ◌∷◌, ◌++◌, length, All, inl, refl, ap, subst, sym, ◌∙◌, arith}
-use Rattle.std.proofs.lemmas.List.{length_push}
+use Rattle.std.proofs.Common.{◌≡◌, ◌⊎◌, ℕ, ◌+◌, ◌-◌, ◌≤◌, true, false, None, List, [], ◌∷◌, ◌++◌, length, map, All, inl, refl, ap, subst, sym, ◌∙◌, arith}
+use Rattle.std.proofs.lemmas.List.{length_push, map-append}
 use Rattle.std.proofs.lemmas.List.Elements.{All-weaker}
 use Rattle.machine_model.specs.Areas.{Bytes}
 use Rattle.base_types.specs.declared.extent.Extent.{Extent}
@@ -9,15 +9,18 @@ use Rattle.machine_model.specs.States.{DiskState, moment}
 use Rattle.machine_model.specs.Images.{MayLeave}
 use Rattle.machine_model.proofs.MomentLemmas.{goes_on_same, left_now, allowed_left}
 use Rattle.lists_versions.specs.declared.change.Change.{Change}
+use Rattle.lists_versions.specs.Changes.{mapped}
 use Rattle.journal_gates.specs.Spelled.{Spells}
 use Rattle.journal_gates.specs.InStep.{IsInStep}
 use Rattle.journal_gates.specs.Crash.{Appends, KeepsPages}
 use Rattle.journal_gates.proofs.InStepLemmas.{step_spells}
 use Rattle.machine_model.specs.declared.range.Range.{Range}
 use Rattle.pages_area.specs.Crash.{ChangesOnly}
+use Rattle.base_types.specs.declared.text_place.TextPlace.{TextPlace}
 use Rattle.journal_entries.specs.Spelling.{spelling}
+use Rattle.journal_entries.specs.declared.act.Act.{Act}
 use Rattle.journal_entries.specs.declared.entry.Entry.{Entry}
-use Rattle.journal_entries.specs.declared.entry.Entry.TheVariants.{Arrive, Delete, Planned, Format}
+use Rattle.journal_entries.specs.declared.entry.Entry.TheVariants.{Arrive, Delete, Planned, Format, Batch}
 use Rattle.model_archive.specs.Histories.{History, changes, end_of, is_mark, is_marked}
 use Rattle.model_archive.specs.Plans.{live_plans}
 use Rattle.model_archive.proofs.HoldLemmas.{same_live}
@@ -31,12 +34,15 @@ use Rattle.base_types.specs.Limits.{limit_of}
 use Rattle.base_types.specs.declared.which.Which.TheVariants.{Journal}
 use Rattle.archive_hand.specs.States.{ArchiveState, StandsFor}
 use Rattle.archive_plans.specs.Shelves.{ShelfState}
-use Rattle.lists_index.specs.Indexes.{IsPreparedFor}
+use Rattle.lists_index.specs.Indexes.{IndexState, Indexes, IsPreparedFor}
 use Rattle.lists_index.specs.declared.prepared.Prepared.{Prepared as Words}
 use Rattle.archive_hand.specs.Adding.{IsMore}
+use Rattle.archive_entries.specs.Batches.{place_change, IsNextBatch}
 use Rattle.archive_entries.specs.Entries.{IsNext, IsHeld, Makes, document_of, text_of}
+use Rattle.archive_entries.specs.Places.{pair_of, placed_acts, ArePlaced}
+use Rattle.archive_entries.specs.declared.batching.NextAct.{NextAct}
 use Rattle.archive_entries.proofs.IndexLemmas.{change_comes, changes_marked}
-use Rattle.archive_entries.proofs.PlaceLemmas.{placed_mark, placed_more}
+use Rattle.archive_entries.proofs.PlaceLemmas.{placed_batch, placed_mark, placed_more}
 use Rattle.machine_model.specs.Calls.{OnlyReads}
 
 -- ---- an entry more
@@ -46,12 +52,14 @@ makes_document (Arrive doc at text) x makes = makes.0
 makes_document (Delete doc at) x makes = makes.0
 makes_document (Planned plan) x makes = absurd makes
 makes_document Format x makes = absurd makes
+makes_document (Batch batch) x makes = absurd makes
 
 makes_unmarked : (e : Entry) (x : Change ℕ) → Makes e x → is_mark e ≡ false
 makes_unmarked (Arrive doc at text) x makes = refl
 makes_unmarked (Delete doc at) x makes = refl
 makes_unmarked (Planned plan) x makes = refl
 makes_unmarked Format x makes = absurd makes
+makes_unmarked (Batch batch) x makes = absurd makes
 
 pub stands_more : (a b : ArchiveState) (h : History) (e : Entry) (x : Change ℕ) (body : List ℕ) (words : Words)
     → StandsFor a h → IsNext h e x body → IsPreparedFor a.index (document_of e) (text_of e) words → IsMore a b x body words → StandsFor b (h ++ e ∷ [])
@@ -93,6 +101,34 @@ stands_marked a h end stands none at =
       plans_are = stands.plans_are ∙ sym live;
       pages_are = rw live stands.pages_are;
       marked_is = sym (marked_push h);
+    }
+
+-- the archive with a batch more: its journal ends there, and these are its changes and its index
+abbrev pub with_batch : ArchiveState → ℕ → List (Change TextPlace) → IndexState → ArchiveState
+with_batch a end changes index = record a { end = end; live = true; length = a.length + 1; changes = changes; index = index }
+
+-- its changes come behind those of the entries before it
+batch_placed : (a : ArchiveState) (h : History) (batch : List Act) (acts : List NextAct) (body : List ℕ) → StandsFor a h → IsNextBatch h batch acts body → ArePlaced 16 (h ++ Batch batch ∷ []) (a.changes ++ map place_change acts)
+batch_placed a h batch acts body stands next =
+    let least : 17 ≤ end_of h = omega (arith, end_of-least h) in
+    let gate : ℕ = end_of h - 1 in
+    let at : end_of h + 9 ≡ gate + 10 = omega (arith, least) in
+    placed_batch h a.changes (a.changes ++ map place_change acts) batch gate stands.changes_are (omega (arith, least))
+    (map-append (mapped pair_of) a.changes (map place_change acts) ∙ ap (λ (l : List (Change (ℕ × ℕ))). map (mapped pair_of) a.changes ++ l) (next.placed ∙ ap (λ (n : ℕ). placed_acts n batch) at))
+
+pub stands_batch : (a : ArchiveState) (h : History) (batch : List Act) (acts : List NextAct) (body : List ℕ) (end : ℕ) (all : List (Change TextPlace)) (index : IndexState) → StandsFor a h → IsNextBatch h batch acts body → end ≡ a.end + 5 + length body
+    → all ≡ a.changes ++ map place_change acts → Indexes index (changes (h ++ Batch batch ∷ [])) → StandsFor (with_batch a end all index) (h ++ Batch batch ∷ [])
+stands_batch a h batch acts body end all index stands next at noted indexed =
+    let live : live_plans (h ++ Batch batch ∷ []) ≡ live_plans h = same_live h (Batch batch) tt in
+    record {
+      loadable = loadable-push h (Batch batch) stands.loadable (entry_loads h (Batch batch) next.legal);
+      end_is = omega (arith, at, stands.end_is, end_of-push h (Batch batch), ap length next.spelled);
+      length_is = omega (arith, stands.length_is, length_push h (Batch batch));
+      changes_are = rw noted (batch_placed a h batch acts body stands next);
+      index_is = indexed;
+      plans_are = stands.plans_are ∙ sym live;
+      pages_are = rw live stands.pages_are;
+      marked_is = stands.marked_is ∙ sym (unmarked_push h (Batch batch) refl);
     }
 
 -- the bodies of a history with an entry more

@@ -1,5 +1,5 @@
 -- An archive of which the cache alone changes, and what is kept is what reads give.
-use Rattle.std.proofs.Common.{◌≡◌, ℕ, List, [], ◌++◌, get_or, All, subst, sym}
+use Rattle.std.proofs.Common.{IsTrue, ◌≡◌, ℕ, List, [], ◌++◌, get_or, All, subst, sym}
 use Rattle.std.proofs.lemmas.List.Elements.{All-nil}
 use Rattle.machine_model.specs.States.{DiskState}
 use Rattle.pages_area.specs.Caches.{Kept, IsHeld, StandsFor as IsCacheOf}
@@ -9,7 +9,7 @@ use Rattle.pages_area.specs.Taken.{PagesState, HasTaken}
 use Rattle.pages_area.proofs.StayLemmas.{apart_parts}
 use Rattle.base_types.specs.declared.extent.Extent.{Extent}
 use Rattle.model_archive.specs.Histories.{History}
-use Rattle.archive_hand.specs.States.{ArchiveState, StandsFor, CacheStands, IsSameButCache}
+use Rattle.archive_hand.specs.States.{ArchiveState, StandsFor, StandsBut, IsSound, CacheStands, IsSameButCache}
 
 -- it stands for the history for which it stood
 pub stands_but_cache : (a b : ArchiveState) (h : History) → IsSameButCache a b → StandsFor a h → StandsFor b h
@@ -25,6 +25,48 @@ stands_but_cache a b h same stands =
       pages_are = stands.pages_are;
       marked_is = stands.marked_is;
     })
+
+-- what stands for a history does but for what it tells of words, and the other way round
+pub all_but : (a : ArchiveState) (h : History) → StandsFor a h → StandsBut a h
+all_but a h stands = record {
+  loadable = stands.loadable;
+  end_is = stands.end_is;
+  length_is = stands.length_is;
+  changes_are = stands.changes_are;
+  plans_are = stands.plans_are;
+  pages_are = stands.pages_are;
+  marked_is = stands.marked_is;
+}
+
+pub is_sound : (a : ArchiveState) (h : History) → StandsFor a h → IsSound a
+is_sound a h stands = (h, all_but a h stands, λ live. stands.index_is)
+
+pub stands_live : (a : ArchiveState) (sound : IsSound a) → IsTrue a.live → StandsFor a sound.0
+stands_live a sound live = record {
+  loadable = sound.1.loadable;
+  end_is = sound.1.end_is;
+  length_is = sound.1.length_is;
+  changes_are = sound.1.changes_are;
+  index_is = sound.2 live;
+  plans_are = sound.1.plans_are;
+  pages_are = sound.1.pages_are;
+  marked_is = sound.1.marked_is;
+}
+
+pub sound_but_cache : (a b : ArchiveState) → IsSameButCache a b → IsSound a → IsSound b
+sound_but_cache a b same sound = subst IsSound (sym same) (
+  sound.0,
+  record {
+    loadable = sound.1.loadable;
+    end_is = sound.1.end_is;
+    length_is = sound.1.length_is;
+    changes_are = sound.1.changes_are;
+    plans_are = sound.1.plans_are;
+    pages_are = sound.1.pages_are;
+    marked_is = sound.1.marked_is;
+  },
+  sound.2,
+)
 
 -- where the cache and Pages are as they were
 pub cached_on : (was now : List Kept) (old new : DiskState) → now ≡ was → new.holds.pages ≡ old.holds.pages → IsCacheOf was old.holds.pages → IsCacheOf now new.holds.pages

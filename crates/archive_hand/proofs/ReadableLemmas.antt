@@ -7,14 +7,14 @@ use Rattle.base_types.specs.declared.extent.Extent.{Extent}
 use Rattle.pages_area.specs.Live.{IsInside}
 use Rattle.journal_entries.specs.Spelling.{spelling}
 use Rattle.journal_entries.specs.PlanSpelling.{IsPlanEntry}
-use Rattle.journal_entries.specs.declared.entry.Entry.TheVariants.{Arrive, Delete, Planned, Format}
+use Rattle.journal_entries.specs.declared.entry.Entry.TheVariants.{Arrive, Delete, Planned, Format, Batch}
 use Rattle.journal_entries.specs.declared.place.Place.{Place}
 use Rattle.plans_kinds.specs.Plans.{IsFitFor}
 use Rattle.model_archive.specs.declared.stored.StoredPlan.{StoredPlan}
 use Rattle.model_archive.specs.Histories.{History}
 use Rattle.model_archive.specs.Legal.{EachMayCome, IsLoadable}
 use Rattle.model_archive.specs.Plans.{is_another, live_after, live_plans, with_plan}
-use Rattle.archive_hand.specs.States.{ArchiveState, StandsFor, Reaches}
+use Rattle.archive_hand.specs.States.{ArchiveState, StandsBut, Reaches}
 use Rattle.archive_plans.specs.Shelves.{extents_all, IsReadable}
 
 -- ---- their fields are in their ranges
@@ -27,6 +27,7 @@ with_one before gate live [] each all = all
 with_one before gate live (Arrive doc at text ∷ h) each all = with_one (before ++ Arrive doc at text ∷ []) (gate + 5 + length (spelling (Arrive doc at text))) live h each.1 all
 with_one before gate live (Delete doc at ∷ h) each all = with_one (before ++ Delete doc at ∷ []) (gate + 5 + length (spelling (Delete doc at))) live h each.1 all
 with_one before gate live (Format ∷ h) each all = with_one (before ++ Format ∷ []) (gate + 5 + length (spelling Format)) live h each.1 all
+with_one before gate live (Batch batch ∷ h) each all = with_one (before ++ Batch batch ∷ []) (gate + 5 + length (spelling (Batch batch))) live h each.1 all
 with_one before gate live (Planned plan ∷ h) each all =
     let new : StoredPlan = record { gate = gate; plan = plan } in
     with_one (before ++ Planned plan ∷ []) (gate + 5 + length (spelling (Planned plan))) (with_plan live new) h each.1
@@ -57,7 +58,7 @@ few_bytes (p ∷ places) =
     let in_pages = p.extent.in_pages in
     omega (arith, few_bytes places, sum_by-cons (λ (q : Place). q.extent.bytes) p places, in_pages)
 
-pub readable : (a : ArchiveState) (h : History) (reach : Both ℕ) (at : ℕ) (s : StoredPlan) → StandsFor a h → Reaches reach a → at < length a.shelf.plans → s ≡ get_or a.shelf.plans at s → IsReadable reach.pages s.plan
+pub readable : (a : ArchiveState) (h : History) (reach : Both ℕ) (at : ℕ) (s : StoredPlan) → StandsBut a h → Reaches reach a → at < length a.shelf.plans → s ≡ get_or a.shelf.plans at s → IsReadable reach.pages s.plan
 readable a h reach at s stands within there same =
     let all : All is_entry a.shelf.plans = subst (All is_entry) (sym stands.plans_are) (live_entries h stands.loadable) in
     let is : IsPlanEntry s.plan = subst is_entry (sym same) (all at s there) in

@@ -1,5 +1,6 @@
 -- Where the pages hold what the history's plans need, a step by what reads give is the abstract archive's.
 use Rattle.std.proofs.Common.{◌≡◌, ◌⊎◌, ℕ, ◌+◌, List, [], ◌∷◌, ◌++◌, Option, Some, None, Result, Ok, Err, inl, inr, refl, ap, sym, subst}
+use Rattle.std.specs.List.{flat_map}
 use Rattle.machine_model.specs.Areas.{Bytes}
 use Rattle.machine_model.specs.States.{DiskState}
 use Rattle.journal_gates.specs.Spelled.{Spells}
@@ -18,6 +19,7 @@ use Rattle.base_commands.specs.declared.command.Item.TheVariants as items
 use Rattle.base_commands.specs.declared.count.TopCount.{TopCount}
 use Rattle.base_commands.specs.declared.command.Kind.{Kind}
 use Rattle.base_commands.specs.declared.command.Kind.TheVariants.{Guarantee, Uniform, Since}
+use Rattle.base_commands.specs.declared.batch.BatchItems.TheVariants as batches
 use Rattle.base_commands.specs.declared.text.Text.TheVariants as texts
 use Rattle.query_lang.specs.Grammar.{Query}
 use Rattle.journal_entries.specs.declared.entry.Entry.{Entry}
@@ -30,7 +32,7 @@ use Rattle.model_archive.specs.Legal.{IsLoadable}
 use Rattle.model_archive.specs.Planning.{OfBoundaries, OfList, OfPhrase, OfWidth, last_second}
 use Rattle.model_archive.specs.Plans.{live_extents}
 use Rattle.model_archive.specs.Stands.{EachStands, Stands, bodies_of}
-use Rattle.model_archive.specs.Steps.{Reply, Adds, AddsPlan, CarriesOut, Declines, Step, StoresPlan, arrival_refusal, deletion_refusal, mark_refusal, full_journal, in_blocks, spelled_key}
+use Rattle.model_archive.specs.Steps.{Reply, Cause, Adds, AddsBatch, AddsPlan, CarriesOut, Declines, Step, StoresPlan, act_of, arrival_refusal, batch_cause, deletion_refusal, mark_refusal, full_journal, in_blocks, spelled_key}
 use Rattle.model_archive.specs.Worlds.{world_of}
 use Rattle.model_archive.proofs.ChosenLemmas.{held_undamaged, made_at, made_over}
 use Rattle.model_archive.proofs.HistoryLemmas.{loadable-middle}
@@ -122,10 +124,16 @@ adds_more : (h : History) (e : Entry) (refusal : Option Refusal) (reply : Reply)
 adds_more h e None reply next adds = inr (e, adds.0)
 adds_more h e (Some why) reply next adds = inl adds.0
 
+batch_more : (h : History) (e : Entry) (cause : Option Cause) (reply : Reply) (next : History) → AddsBatch h e cause reply next → IsMore h next
+batch_more h e None reply next adds = inr (e, adds.0)
+batch_more h e (Some cause) reply next adds = inl adds.0
+
 command_more : (h : History) (c : Command) (reply : Reply) (next : History) → CarriesOut h c reply next → IsMore h next
 command_more h (commands.Arrive doc at (texts.Bytes text)) reply next step = adds_more h (entries.Arrive doc at text) (arrival_refusal h doc at text) reply next step
 command_more h (commands.Arrive doc at (texts.TooLong bytes)) reply next step = inl step.0
 command_more h (commands.Delete doc at) reply next step = adds_more h (entries.Delete doc at) (deletion_refusal h doc at) reply next step
+command_more h (commands.Batch (batches.Items items)) reply next step = batch_more h (entries.Batch (flat_map act_of items)) (batch_cause h items) reply next step
+command_more h (commands.Batch (batches.TooLong bytes)) reply next step = inl step.0
 command_more h commands.Format reply next step = adds_more h entries.Format (mark_refusal h) reply next step
 command_more h (commands.Plan phrase kind factor) reply next step =
     phrase_of kind h (spelled_key (one_term phrase)) (IsMore h next)
@@ -145,6 +153,7 @@ held_next s next standing stocks loads (inr (e, is)) = subst (λ (h : History). 
     go : (e : Entry) → next.history ≡ s.history ++ e ∷ [] → HoldsPlans (s.history ++ e ∷ []) next.pages
     go (entries.Arrive doc at text) is = held_push IsFitFor s.history (entries.Arrive doc at text) next.pages tt standing.loadable (loadable-middle s.history (entries.Arrive doc at text) [] (subst IsLoadable is loads)).1.allowed now
     go (entries.Delete doc at) is = held_push IsFitFor s.history (entries.Delete doc at) next.pages tt standing.loadable (loadable-middle s.history (entries.Delete doc at) [] (subst IsLoadable is loads)).1.allowed now
+    go (entries.Batch batch) is = held_push IsFitFor s.history (entries.Batch batch) next.pages tt standing.loadable (loadable-middle s.history (entries.Batch batch) [] (subst IsLoadable is loads)).1.allowed now
     go entries.Format is = held_push IsFitFor s.history entries.Format next.pages tt standing.loadable (loadable-middle s.history entries.Format [] (subst IsLoadable is loads)).1.allowed now
     go (entries.Planned plan) is = held_with IsFitFor s.history plan next.pages standing.loadable (subst (λ (h : History). AreApart (live_extents h)) is stocks.apart) now (subst (λ (h : History). HoldsPlan h next.pages plan) is (stocks.held plan is))
 
@@ -198,6 +207,7 @@ pub step_standing : (s : Store) (item : Item) (reply : Reply) (next : Store) →
 step_standing s (items.Command (commands.Arrive doc at text)) reply next standing range (step, stocks) = changed s next (commands.Arrive doc at text) reply standing range step step stocks
 step_standing s (items.Command (commands.Delete doc at)) reply next standing range (step, stocks) = changed s next (commands.Delete doc at) reply standing range step step stocks
 step_standing s (items.Command commands.Format) reply next standing range (step, stocks) = changed s next commands.Format reply standing range step step stocks
+step_standing s (items.Command (commands.Batch batch)) reply next standing range (step, stocks) = changed s next (commands.Batch batch) reply standing range step step stocks
 step_standing s (items.Command (commands.Plan word kind fraction)) reply next standing range (step, stocks) = changed s next (commands.Plan word kind fraction) reply standing range step step stocks
 step_standing s (items.Command (commands.Find at expr)) reply next standing range step = found s at expr reply next standing step
 step_standing s (items.Command (commands.Top count at expr)) reply next standing range step = topped s count at expr reply next standing step

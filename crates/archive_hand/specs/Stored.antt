@@ -112,6 +112,7 @@ abbrev pub StoreStep : Store → Item → Reply → Store → Type 0
 StoreStep old (items.Command (commands.Arrive doc at text)) reply new = Changes old (commands.Arrive doc at text) reply new
 StoreStep old (items.Command (commands.Delete doc at)) reply new = Changes old (commands.Delete doc at) reply new
 StoreStep old (items.Command commands.Format) reply new = Changes old commands.Format reply new
+StoreStep old (items.Command (commands.Batch batch)) reply new = Changes old (commands.Batch batch) reply new
 StoreStep old (items.Command (commands.Plan word kind fraction)) reply new = Changes old (commands.Plan word kind fraction) reply new
 StoreStep old (items.Command (commands.Find at expr)) reply new = Answers (MakesAt old at) old at.seconds (at.seconds + 1) expr reply new
 StoreStep old (items.Command (commands.Top count at expr)) reply new = Answers (MakesTop old count at) old at.seconds (at.seconds + 1) expr reply new

@@ -1,5 +1,5 @@
-//! A plan is put down: its sublists, and then its entry.
-ghost use Rattle.std.specs.Prelude.{ℕ, ◌≡◌, ◌+◌, ◌≤◌, ◌^◌, ◌++◌, ◌∷◌, [], List, length, All, IsTrue, IfOk, OnOk, OnErr};
+//! A plan is stored: its sublists are put down, and then its entry.
+ghost use Rattle.std.specs.Prelude.{ℕ, ◌≡◌, ◌+◌, ◌≤◌, ◌^◌, ◌++◌, ◌∷◌, [], List, length, All, IsTrue, IfOk, OnOk, OnErr, ◌⊎◌, ◌↔◌, ◌<◌, Ok, Err, IsErrOf};
 ghost use Rattle.journal_gates.specs.Records.{gate_bytes};
 ghost use Rattle.machine_model.specs.Causes.{Rose};
 ghost use Rattle.base_types.specs.declared.extent.Extent.{Extent as PlainExtent};
@@ -10,18 +10,87 @@ ghost use Rattle.pages_area.specs.Live.{IsInside};
 ghost use Rattle.pages_area.specs.Runs.{IsTaken};
 ghost use Rattle.pages_area.specs.Taken.{HasTaken};
 ghost use Rattle.pages_sublists.specs.Preparing.{extents, pieces};
-ghost use Rattle.model_archive.specs.Plans.{with_plan};
+ghost use Rattle.model_archive.specs.Plans.{with_plan, live_extents};
 ghost use Rattle.archive_plans.specs.Shelves.{extents_all};
-ghost use Rattle.archive_hand.specs.Storing.{HasPutDown, HasStopped};
+ghost use Rattle.archive_hand.specs.Storing.{HasPutDown, HasStopped, IsDraft, IsStoredAs, IsStoredBy};
+ghost use Rattle.model_archive.specs.Histories.{History};
+ghost use Rattle.journal_entries.specs.declared.plan.PlanEntry.{PlanEntry};
+ghost use Rattle.archive_plans.specs.Readying.{IsFull, summary_of, tells_of};
+ghost use Rattle.archive_hand.specs.States.{StandsFor, CacheStands, AreInStepBy, Reaches};
+ghost use Rattle.archive_hand.specs.Changing.{KeepsBy};
+ghost use Rattle.archive_hand.specs.Stored.{Store};
+ghost use Rattle.archive_hand.specs.Adding.{IsDone, IsSpent};
+ghost use Rattle.journal_entries.specs.declared.entry.Entry.TheVariants as entries;
 
-use archive_plans::{PlanReport, Ready, Shelf};
+use crate::archive::Archive;
+use crate::error::ChangeError;
+use archive_plans::{Draft, PlanReport, Ready, Shelf, make_ready};
 use journal_gates::{AppendError, Frame, Journal};
 use machine_model::{Disk, Failed};
+use model_archive::Refusal;
 use pages_sublists::{Prepared, Sublists};
+use std::alloc::Global;
+
+impl Archive {
+    /// Stores a plan that was drafted, if there is room for it: first its sublists, and then its entry. It
+    /// takes the place of its word's plan, if there is one. At `Ok` it is durable. All memory is taken
+    /// before the first write.
+    ///
+    /// `Refused`: Pages or the journal are full. `Failed`, `Memory`: the archive is spent, and keeps what it
+    /// had.
+    /// Costs what `Sublists::prepare` does; the sublists' bytes, hashed and written once; a sync; and two
+    /// synced writes of the entry.
+    pub fn store<D: Disk>(
+        &mut self,
+        alloc: Global,
+        disk: &mut D,
+        draft: Draft,
+    ) -> Result<PlanReport, ChangeError>
+        requires live { IsTrue self.old.live }
+        requires within { Reaches (D.disk disk.old).reach self.old }
+        requires drafted { (h : History) → StandsFor self.old h → IsDraft h draft }
+        ensures only { D.Disk.only disk.old disk.new }
+        ensures failed { IsErrOf result ChangeError.Failed → Rose (D.disk disk.old).faults (D.disk disk.new).faults }
+        ensures within { Reaches (D.disk disk.new).reach self.new }
+        ensures live { IsTrue self.new.live ↔ IsDone result }
+        ensures same { (why : Refusal) → IsErrOf result (ChangeError.Refused why) → disk.new ≡ disk.old }
+        ensures memory { IsErrOf result ChangeError.Memory → disk.new ≡ disk.old }
+        ensures cached { D.disk_tells → CacheStands (D.disk disk.old) self.old → IsDone result → CacheStands (D.disk disk.new) self.new }
+        ensures spent { (IsErrOf result ChangeError.Memory ⊎ IsErrOf result ChangeError.Failed) → IsSpent self.old self.new }
+        ensures refused { (h : History) → StandsFor self.old h → (why : Refusal) → IsErrOf result (ChangeError.Refused why) → IsFull draft (live_extents h) self.old.end why × StandsFor self.new h }
+        ensures stores { (h : History) → StandsFor self.old h → IfOk result (λ r. (plan : PlanEntry) × (IsStoredAs h draft plan × (summary_of r ≡ tells_of draft (length h + 1)) × StandsFor self.new (h ++ entries.Planned plan ∷ []))) }
+        // By what reads give, whatever lies in Pages: at Ok the draft's plan comes behind the history; where the disk failed, all is as it was, or it does.
+        ensures puts { D.disk_tells → (s : Store) → AreInStepBy (D.disk disk.old) self.old s →
+            IfOk result (λ r. (next : Store) × (IsStoredBy s next draft (D.disk disk.old) (D.disk disk.new) × (summary_of r ≡ tells_of draft (length s.history + 1)) × AreInStepBy (D.disk disk.new) self.new next)) }
+        ensures stops { D.disk_tells → (s : Store) → AreInStepBy (D.disk disk.old) self.old s → IsErrOf result ChangeError.Failed →
+            KeepsBy s (D.disk disk.old) (D.disk disk.new) ⊎ ((next : Store) × IsStoredBy s next draft (D.disk disk.old) (D.disk disk.new)) }
+        ensures stays { (h : History) → StandsFor self.old h → ((why : Refusal) × IsErrOf result (ChangeError.Refused why)) ⊎ IsErrOf result ChangeError.Memory → StandsFor self.new h }
+    {
+        let ready = match make_ready(
+            alloc,
+            self.journal.end(),
+            self.entries,
+            &mut self.shelf,
+            draft,
+        ) {
+            Ok(ready) => ready,
+            Err(why) => return Err(self.give_up(why)),
+        };
+        self.live = false;
+        match write_ready(disk, &mut self.journal, &mut self.shelf, ready) {
+            Ok(report) => {
+                self.entries += 1;
+                self.live = true;
+                Ok(report)
+            }
+            Err(_) => Err(ChangeError::Failed),
+        }
+    }
+}
 
 /// Writes what is ready, first the sublists and then the entry; the plan takes the place of the one that its
 /// word had, whose pages are free only then. Takes no memory.
-pub(crate) fn write_ready<D: Disk>(
+fn write_ready<D: Disk>(
     disk: &mut D,
     journal: &mut Journal,
     shelf: &mut Shelf,

@@ -1,21 +1,19 @@
 -- An act that is read is spelled so, and what is spelled so is read.
-use Rattle.std.specs.Prelude.{◌≡◌, ℕ, zero, suc, ◌+◌, ◌*◌, ◌^◌, ◌<◌, ◌≤◌, Bool, true, false, cond, nat_lt, List, [], ◌∷◌, ◌++◌, length, take, drop, All, Result, Ok, Err, refl}
+use Rattle.std.specs.Prelude.{◌≡◌, ℕ, zero, suc, ◌+◌, ◌*◌, ◌^◌, ◌≤◌, Bool, true, false, cond, nat_lt, List, [], ◌∷◌, ◌++◌, length, take, drop, All, Result, Ok, Err, refl}
 use Rattle.std.proofs.Common.{sym, ap, subst, ◌∙◌, arith, append_assoc}
 use Rattle.std.specs.Int.{w32, w64, to_be_bytes}
 use Rattle.std.proofs.lemmas.Bool.{ltb-false, le-ltb}
-use Rattle.std.proofs.lemmas.List.{append-nil, take_at, drop_at, take-append-drop, length-append, length-take, length-drop}
+use Rattle.std.proofs.lemmas.List.{take_at, drop_at, take-append-drop, length-append, length-take, length-drop}
 use Rattle.std.proofs.lemmas.List.Elements.{All-nil, All-cons, All-head, All-tail}
-use Rattle.base_types.specs.Reading.{◌>>=◌}
 use Rattle.base_types.specs.declared.ids.DocId.{DocId}
 use Rattle.base_types.specs.declared.time.Time.{Time}
 use Rattle.journal_entries.specs.declared.act.Act.{Act}
 use Rattle.journal_entries.specs.declared.act.Act.TheVariants.{Arrive, Delete}
-use Rattle.journal_entries.specs.declared.entry.Entry.{Entry}
 use Rattle.journal_entries.specs.Acts.{alone, act_spelling, act_bytes, acts_bytes, IsAct}
 use Rattle.journal_entries.specs.Spelling.{spelling, IsEntry}
 use Rattle.journal_entries.specs.FieldReading.{number_at, end_at}
 use Rattle.journal_entries.specs.Reading.{change_at, text_at, arrive_at, delete_at, act_at, with_rest, act_of, sized_at, acts_at}
-use Rattle.base_types.proofs.Readings.{bind_ok, ok_is, Within, Within-more, Within-next, Within-then}
+use Rattle.base_types.proofs.Readings.{bind_ok, ok_is, Within, Within-more, Within-next}
 use Rattle.base_types.proofs.Bytes.{IsBytes, IsBytes-take, IsBytes-drop, wide32}
 use Rattle.journal_entries.proofs.FieldLemmas.{Takes, number_takes, number_again, number_within, text_at-ok, text_takes, text_within, end_takes, end_within}
 use Rattle.journal_entries.proofs.ChangeLemmas.{change_field}
@@ -223,9 +221,3 @@ arrival_written doc at text old a b c len l p q r =
     let is : len ≡ length (act_spelling (Arrive doc at text)) = omega (arith, l) in
     r ∙ ap (λ (xs : List ℕ). xs ++ text) (q ∙ ap (λ (xs : List ℕ). xs ++ front) p ∙ append_assoc old (to_be_bytes w32 len) front) ∙ append_assoc old (to_be_bytes w32 len ++ front) text
     ∙ ap (λ (n : ℕ). old ++ (to_be_bytes w32 n ++ act_spelling (Arrive doc at text))) is
-
-pub deletion_written : (doc : DocId) (at : Time) (old a b : List ℕ) (len : ℕ) → len ≡ 13 → a ≡ old ++ to_be_bytes w32 len → b ≡ a ++ 2 ∷ (to_be_bytes w32 doc.0 ++ to_be_bytes w64 at.seconds)
-    → b ≡ old ++ act_bytes (Delete doc at)
-deletion_written doc at old a b len l p q =
-    let sp = act_spelling (Delete doc at) in
-    q ∙ ap (λ (xs : List ℕ). xs ++ sp) p ∙ append_assoc old (to_be_bytes w32 len) sp ∙ ap (λ (n : ℕ). old ++ (to_be_bytes w32 n ++ sp)) l

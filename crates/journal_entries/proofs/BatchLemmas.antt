@@ -1,14 +1,14 @@
 -- A batch: what is read is spelled so, and what is spelled so is read.
-use Rattle.std.specs.Prelude.{◌≡◌, ℕ, ◌-◌, ◌+◌, ◌^◌, ◌<◌, ◌≤◌, List, [], ◌∷◌, ◌++◌, length, take, All, Result, Ok, Err, suc, zero, refl}
-use Rattle.std.proofs.Common.{sym, ap, subst, ◌∙◌, arith, append_assoc, get_or}
+use Rattle.std.specs.Prelude.{◌≡◌, ℕ, ◌-◌, ◌+◌, ◌^◌, ◌<◌, ◌≤◌, List, [], ◌∷◌, ◌++◌, length, Result, Ok, Err, suc, zero, refl}
+use Rattle.std.proofs.Common.{sym, ap, subst, ◌∙◌, arith, append_assoc}
 use Rattle.std.specs.Int.{w32, to_be_bytes}
-use Rattle.std.proofs.lemmas.List.{append-nil, length-append, take_more}
+use Rattle.std.proofs.lemmas.List.{append-nil, length-append}
 use Rattle.base_types.specs.Reading.{◌>>=◌}
 use Rattle.journal_entries.specs.declared.act.Act.{Act}
 use Rattle.journal_entries.specs.declared.fields.FieldError.{FieldError}
 use Rattle.journal_entries.specs.declared.fields.FieldError.TheVariants.{Form, Memory}
 use Rattle.journal_entries.specs.Fields.{Fails}
-use Rattle.journal_entries.specs.Acts.{most_acts, act_bytes, acts_bytes, batch_front, batch_spelling, IsAct, IsBatchSized, IsBatch}
+use Rattle.journal_entries.specs.Acts.{most_acts, acts_bytes, batch_front, batch_spelling, IsBatch}
 use Rattle.journal_entries.specs.FieldReading.{end_at}
 use Rattle.journal_entries.specs.PlanReading.{number_in}
 use Rattle.journal_entries.specs.Reading.{sized_at, acts_at, batch_at}

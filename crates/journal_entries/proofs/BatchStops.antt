@@ -3,7 +3,7 @@ use Rattle.std.specs.Prelude.{◌≡◌, ◌⊎◌, ℕ, zero, suc, ◌+◌, ◌
 use Rattle.std.specs.Int.{w32, w64, to_be_bytes}
 use Rattle.std.specs.List.{concat}
 use Rattle.std.proofs.Common.{sym, ap, subst, ◌∙◌, arith, inl, inr, append_assoc}
-use Rattle.std.proofs.lemmas.Bool.{ltb-true, ltb-false, le-ltb}
+use Rattle.std.proofs.lemmas.Bool.{ltb-false, le-ltb}
 use Rattle.std.proofs.lemmas.List.{append-nil, take_at, drop_at, take-append-drop, length-append, length-take, length-drop}
 use Rattle.std.proofs.lemmas.List.Elements.{All-nil, All-cons, All-head, All-tail}
 use Rattle.std.proofs.lemmas.Str.{IsUtf8-nil}
@@ -19,8 +19,8 @@ use Rattle.journal_entries.specs.Faults.{fields, IsActCount, BeginsAct, BeginsAc
 use Rattle.journal_entries.specs.FieldReading.{number_at, end_at}
 use Rattle.journal_entries.specs.PlanReading.{number_in}
 use Rattle.journal_entries.specs.Reading.{change_at, text_at, arrive_at, delete_at, act_at, with_rest, act_of, sized_at, acts_at, batch_at}
-use Rattle.journal_entries.proofs.Steps.{err_is, no_fault, bind_err, made_err, test_err, guard_err}
-use Rattle.journal_entries.proofs.FieldLemmas.{number_takes, number_again, number_within, text_within, end_within}
+use Rattle.journal_entries.proofs.Steps.{err_is, no_fault, bind_err, made_err, test_err}
+use Rattle.journal_entries.proofs.FieldLemmas.{number_takes, number_again, text_within, end_within}
 use Rattle.journal_entries.proofs.ChangeLemmas.{IsDoc, change_field}
 use Rattle.journal_entries.proofs.Stops.{InFront, none, more_in_front, IsStopped, Of, closed}
 use Rattle.journal_entries.proofs.FieldStops.{time_0, bounded_fails, number_fails, number_front, change_fields, change_front}

@@ -1,5 +1,4 @@
 //! Reading a batch and its acts.
-ghost use Rattle.std.specs.Prelude.{◌≡◌};
 ghost use Rattle.journal_entries.specs.Fields.{Gives};
 ghost use Rattle.journal_entries.specs.Reading.{arrive_at, delete_at, act_at, act_of, sized_at, acts_at, batch_at};
 

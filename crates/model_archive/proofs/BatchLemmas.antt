@@ -11,19 +11,17 @@ use Rattle.base_commands.specs.declared.batch.BatchItem.{BatchItem}
 use Rattle.base_commands.specs.declared.batch.BatchItem.TheVariants as members
 use Rattle.base_commands.specs.declared.text.Text.{Text}
 use Rattle.base_commands.specs.declared.text.Text.TheVariants as texts
-use Rattle.text_words.specs.Words.{distinct}
 use Rattle.lists_versions.specs.declared.change.Change.{Change}
 use Rattle.lists_versions.specs.Tests.{first_of, when}
 use Rattle.journal_entries.specs.declared.act.Act.{Act}
 use Rattle.journal_entries.specs.declared.act.Act.TheVariants as batched
-use Rattle.journal_entries.specs.declared.entry.Entry.{Entry}
-use Rattle.journal_entries.specs.declared.entry.Entry.TheVariants.{Arrive, Delete, Planned, Format, Batch}
+use Rattle.journal_entries.specs.declared.entry.Entry.TheVariants.{Arrive, Delete, Batch}
 use Rattle.journal_entries.specs.Acts.{act_length, alone}
 use Rattle.model_archive.specs.declared.refusal.Refusal.{Refusal}
 use Rattle.model_archive.specs.declared.refusal.Refusal.TheVariants.{BatchTooLong, OldFormat}
 use Rattle.model_archive.specs.Legal.{EachAllowed}
 use Rattle.model_archive.specs.Steps.{act_of, text_held}
-use Rattle.model_archive.specs.Histories.{History, acts, changes, change_by, act_keys, entry_keys, vocabulary, singles, act_refusal, acts_refusal, entry_refusal, is_marked, old_format, long_batch, most_batch}
+use Rattle.model_archive.specs.Histories.{History, acts, changes, change_by, singles, act_refusal, acts_refusal, entry_refusal, is_marked, old_format, long_batch, most_batch}
 
 -- where no test finds a cause, the first finds none, nor do the others
 pub none_found : {W : Type 0} (o : Option W) (tests : List (Option W)) → first_of (o ∷ tests) ≡ None → (o ≡ None) × (first_of tests ≡ None)
@@ -42,10 +40,6 @@ alone_changes : (a : Act) → acts (alone a) ≡ change_by a ∷ []
 alone_changes (batched.Arrive doc at text) = refl
 alone_changes (batched.Delete doc at) = refl
 
-alone_keys : (a : Act) → entry_keys (alone a) ≡ act_keys a
-alone_keys (batched.Arrive doc at text) = refl
-alone_keys (batched.Delete doc at) = refl
-
 pub alone_refusal : (h : History) (a : Act) → entry_refusal h (alone a) ≡ act_refusal h a
 alone_refusal h (batched.Arrive doc at text) = refl
 alone_refusal h (batched.Delete doc at) = refl
@@ -54,17 +48,9 @@ pub singles_changes : (batch : List Act) → flat_map acts (singles batch) ≡ m
 singles_changes [] = refl
 singles_changes (a ∷ batch) = ap (λ (cs : List (Change (List ℕ))). cs ++ flat_map acts (singles batch)) (alone_changes a) ∙ ap (λ (cs : List (Change (List ℕ))). change_by a ∷ cs) (singles_changes batch)
 
-singles_keys : (batch : List Act) → flat_map entry_keys (singles batch) ≡ flat_map act_keys batch
-singles_keys [] = refl
-singles_keys (a ∷ batch) = (λ i. alone_keys a i ++ singles_keys batch i)
-
 pub batch_changes : (h : History) (batch : List Act) → changes (h ++ Batch batch ∷ []) ≡ changes (h ++ singles batch)
 batch_changes h batch =
     flat_map-append acts h (Batch batch ∷ []) ∙ ap (λ (cs : List (Change (List ℕ))). changes h ++ cs) (append-nil (map change_by batch) ∙ sym (singles_changes batch)) ∙ sym (flat_map-append acts h (singles batch))
-
-pub batch_words : (h : History) (batch : List Act) → vocabulary (h ++ Batch batch ∷ []) ≡ vocabulary (h ++ singles batch)
-batch_words h batch =
-    ap distinct (flat_map-append entry_keys h (Batch batch ∷ []) ∙ ap (λ (ks : List (List ℕ)). flat_map entry_keys h ++ ks) (append-nil (flat_map act_keys batch) ∙ sym (singles_keys batch)) ∙ sym (flat_map-append entry_keys h (singles batch)))
 
 acts_allowed : (h : History) (batch : List Act) → acts_refusal h batch ≡ None → EachAllowed h (singles batch)
 acts_allowed h [] none = tt

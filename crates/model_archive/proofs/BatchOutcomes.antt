@@ -1,5 +1,5 @@
 -- A batch that isn't refused is legal, and each batch has one outcome.
-use Rattle.std.proofs.Common.{subst, sym, ◌≡◌, ℕ, ◌+◌, ◌<◌, ◌≤◌, ◌^◌, Bool, true, false, not, nat_lt, List, [], ◌∷◌, ◌++◌, length, sum_by, All, Option, Some, None, unwrap_or, refl, ap, arith, ◌∙◌}
+use Rattle.std.proofs.Common.{subst, sym, ◌≡◌, ℕ, ◌+◌, ◌≤◌, Bool, true, false, not, nat_lt, List, [], ◌∷◌, ◌++◌, length, sum_by, All, Option, Some, None, unwrap_or, refl, ap, arith, ◌∙◌}
 use Rattle.std.specs.List.{flat_map}
 use Rattle.std.specs.Str.{is_utf8}
 use Rattle.std.proofs.lemmas.Bool.{ltb-false, le-ltb}
@@ -13,14 +13,14 @@ use Rattle.base_commands.specs.declared.batch.BatchItems.{BatchItems}
 use Rattle.base_commands.specs.declared.batch.BatchItems.TheVariants.{Items, TooLong}
 use Rattle.base_commands.specs.declared.text.Text.{Text}
 use Rattle.base_commands.specs.declared.text.Text.TheVariants as texts
-use Rattle.lists_versions.specs.Tests.{first_of, when}
-use Rattle.journal_entries.specs.Acts.{act_length, alone, most_text, IsAct}
+use Rattle.lists_versions.specs.Tests.{when}
+use Rattle.journal_entries.specs.Acts.{act_length, most_text, IsAct}
 use Rattle.journal_entries.specs.declared.act.Act.TheVariants as batched
 use Rattle.journal_entries.specs.declared.entry.Entry.{Entry}
 use Rattle.journal_entries.specs.declared.entry.Entry.TheVariants as entries
 use Rattle.model_archive.specs.declared.refusal.Refusal.{Refusal}
 use Rattle.model_archive.specs.declared.refusal.Refusal.TheVariants as refusals
-use Rattle.model_archive.specs.Histories.{History, act_refusal, acts_refusal, entry_refusal, old_format, long_batch, most_batch, singles}
+use Rattle.model_archive.specs.Histories.{History, act_refusal, acts_refusal, old_format, long_batch, most_batch}
 use Rattle.model_archive.specs.Legal.{IsLegalEntry}
 use Rattle.model_archive.specs.Runs.{Outcome}
 use Rattle.model_archive.specs.Steps.{Reply, Accepted, Refused, too_long, bad_text, Cause, first_other, text_held, act_of, text_refusal, item_refusal, for_all, items_cause, batch_cause, refused_for, AddsBatch, Batches}

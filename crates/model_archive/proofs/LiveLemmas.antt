@@ -12,7 +12,7 @@ use Rattle.lists_versions.specs.declared.change.Change.{Change}
 use Rattle.lists_versions.specs.declared.refusal.VersionRefusal.TheVariants.{TimeBack}
 use Rattle.lists_versions.specs.Changes.{last_time, held_at}
 use Rattle.lists_versions.specs.Refusals.{time_back, arrive_refusal, delete_refusal}
-use Rattle.lists_versions.specs.Tests.{first_of, when}
+use Rattle.lists_versions.specs.Tests.{when}
 use Rattle.lists_versions.proofs.Valid.{held_at-later}
 use Rattle.lists_versions.proofs.Latest.{last_time-push}
 use Rattle.text_words.specs.Terms.{occurrences}

@@ -171,14 +171,18 @@ fn write_batch(page: &mut ReplyPage, batch: Result<u64, BatchError>) -> Result<(
             page.accepted(length);
             Ok(())
         }
-        Err(BatchError::Refused {
-            refusal,
-            index: None,
-        }) => refuse(page, refusal),
-        Err(BatchError::Refused {
-            refusal,
-            index: Some(index),
-        }) => {
+        Err(
+            BatchError::Refused {
+                refusal,
+                index: None,
+            },
+        ) => refuse(page, refusal),
+        Err(
+            BatchError::Refused {
+                refusal,
+                index: Some(index),
+            },
+        ) => {
             page.refused_in(refusal, index);
             Ok(())
         }

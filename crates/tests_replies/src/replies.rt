@@ -47,6 +47,7 @@ fn refusals_are_answered_by_number_name_and_detail(rt: HostRuntime) {
         (Refusal::UnknownWord, "no 13 UnknownWord\n"),
         (Refusal::NoPlan, "no 14 NoPlan\n"),
         (Refusal::OneJob, "no 15 OneJob\n"),
+        (Refusal::BatchLine { index: 2 }, "no 16 BatchLine 2\n"),
         (Refusal::BatchLine { index: 1000 }, "no 16 BatchLine 1000\n"),
         (
             Refusal::BatchTooLong { limit: 16_777_216 },
@@ -57,6 +58,36 @@ fn refusals_are_answered_by_number_name_and_detail(rt: HostRuntime) {
         (Refusal::NotDisjunction, "no 20 NotDisjunction\n"),
     ] {
         page.refused(refusal);
+        assert_eq!(rt; page.as_bytes(), text.as_bytes());
+    }
+}
+
+#[test]
+fn the_refusal_of_an_item_of_a_batch_ends_with_its_number(rt: HostRuntime) {
+    let mut page = ReplyPage::new(rt.alloc()).expect(&rt, "memory");
+    let last = Time::new(10).expect(&rt, "a time of 10 seconds");
+    for (refusal, index, text) in [
+        (Refusal::NoDocument, 2, "no 4 NoDocument in 2\n"),
+        (Refusal::TimeBack { last }, 3, "no 2 TimeBack 10 in 3\n"),
+        (Refusal::SameTime, 1, "no 3 SameTime in 1\n"),
+        (
+            Refusal::TooLong { limit: 4194304 },
+            1000,
+            "no 5 TooLong 4194304 in 1000\n",
+        ),
+        (Refusal::BadText { offset: 7 }, 2, "no 6 BadText 7 in 2\n"),
+        (
+            full(Which::Versions),
+            999,
+            "no 10 Full versions 4194304 in 999\n",
+        ),
+        (
+            Refusal::NoDocument,
+            u32::MAX,
+            "no 4 NoDocument in 4294967295\n",
+        ),
+    ] {
+        page.refused_in(refusal, index);
         assert_eq!(rt; page.as_bytes(), text.as_bytes());
     }
 }

@@ -1,4 +1,5 @@
 //! The tests, by what they try.
+mod batch_entries;
 mod batches;
 mod command_lines;
 mod entries;

@@ -4,11 +4,12 @@ in memory.)"""
 from __future__ import annotations
 
 import random
+from struct import pack
 
 from model import HEADER, PAGE, Archive, NotArchive, Outcome, read_journal, spell_journal
 from scripts import Folder
 
-from attacks.rig import SCRIPT, ends, expect, some
+from attacks.rig import BATCH_SCRIPT, SCRIPT, ends, expect, some
 
 ONE_SCRIPT = b"arrive 7 10 5\nred a\n"
 FORMATS_SCRIPT = b"arrive 1 10 1\nv\narrive 2 20 1\nv\ndelete 2 30\ndelete 1 40\nplan v guarantee 1/1\n"
@@ -40,27 +41,86 @@ def journals(one: bytes) -> list[tuple[str, bytes, int | None]]:
     ]
 
 
+def _record(body: bytes) -> bytes:
+    return b"\xa5" + pack(">I", len(body)) + body
+
+
+def batch_journals(one: bytes) -> list[tuple[str, bytes, int | None]]:
+    """The same with the mark behind the arrival, and a batch behind that."""
+    mark, arrival, deletion = b"\5\0\2", pack(">BIQ", 1, 8, 20) + b"red", pack(">BIQ", 2, 7, 21)
+    marked = one[:-1] + _record(mark)
+    gate = len(marked)
+    first = gate + 5 + 9  # the first act, behind its length
+
+    def batch(*acts: bytes, count: int | None = None) -> bytes:
+        return pack(">BI", 4, len(acts) if count is None else count) + b"".join(pack(">I", len(act)) + act for act in acts)
+
+    def with_length(length: int) -> bytes:
+        return batch(arrival, deletion)[:5] + pack(">I", length) + batch(arrival, deletion)[9:]
+
+    texts = [pack(">BIQ", 1, at, 20) + bytes(1 << 22) for at in range(4)]
+    bodies: list[tuple[str, bytes, int | None]] = [
+        ("a batch", batch(arrival, deletion), None),
+        ("a batch of the longest texts", batch(*texts), None),
+        ("a batch of texts that are too long together", batch(*texts, arrival), gate),
+        ("a second mark", mark, gate),
+        ("a batch of no change", batch(), gate + 6),
+        ("a batch of 1,001 changes", batch(*[arrival] * 1_001), gate + 6),
+        ("a batch whose number of changes is cut short", batch(arrival)[:4], gate + 6),
+        ("a batch that has a change less than it says", batch(arrival, count=2), first + len(arrival)),
+        ("a change whose length is cut short", batch(arrival)[:7], gate + 10),
+        ("a change that is longer than the batch", batch(arrival)[:-1], first),
+        ("a change of no byte", with_length(0), first),
+        ("a change whose time is cut short", with_length(12), first + 5),
+        ("a plan in a batch", batch(b"\3" + arrival[1:]), first),
+        ("a batch in a batch", batch(batch(arrival)), first),
+        ("a mark in a batch", batch(mark), first),
+        ("a time past all times in a batch", batch(arrival[:5] + b"\xff" + arrival[6:]), first + 5),
+        ("a text that isn't UTF-8 in a batch", batch(arrival + b"\xff"), first + 13),
+        ("a text that is too long in a batch", batch(texts[0] + b"v"), first + 13),
+        ("a deletion with bytes behind it in a batch", batch(deletion + b"v"), first + 13),
+        ("bytes behind a batch", batch(arrival) + b"v", first + len(arrival)),
+        ("a batch that goes back in time", batch(deletion, arrival), gate),
+        ("a batch with a change that the one before it doesn't allow", batch(arrival, arrival), gate),
+    ]
+    return [
+        ("a batch before the mark", one[:-1] + _record(batch(arrival)) + b"\0", gate - 8),
+        *((what, marked + _record(body) + b"\0", place) for what, body, place in bodies),
+    ]
+
+
 def damage_journals(program: str, audit: str) -> str:
     with Folder(program) as folder:
         folder.run(ONE_SCRIPT)
         one = folder.journal.read_bytes()
         expect(len(one) == 40, f"the journal of one arrival has {len(one)} bytes")
-        table = journals(one)
+        table = [*journals(one), *batch_journals(one)]
         for what, journal, place in table:
             folder.journal.write_bytes(journal)
+            if len(journal) < 1 << 20:  # (the model is slow)
+                expect(_model_place(journal) == place, f"a journal with {what}: the model has it at fault at {_model_place(journal)}")
             outcome = folder.run(b"")
             wanted = Outcome(b"", "", 0) if place is None else not_archive(place)
-            expect(outcome == wanted, f"a journal with {what}, {journal.hex()}: {outcome}, and not {wanted}")
+            expect(outcome == wanted, f"a journal with {what}, {journal[:99].hex()}: {outcome}, and not {wanted}")
             left = HEADER + b"\0" if len(journal) <= 17 else journal
             is_left = folder.journal.read_bytes()
-            expect(is_left == left, f"a journal with {what}, {journal.hex()}, is left as {is_left.hex()}")
+            expect(is_left == left, f"a journal with {what}, {journal[:99].hex()}, is left as {is_left[:99].hex()}")
             audited = ends([audit], folder.path)
             told = Outcome(b"sound 0 0\n", "", 0) if place is None else Outcome(b"", wanted.line.replace("tt_archive", "tt_verify"), 3)
             expect(audited == told, f"an audit of a journal with {what}: {audited}, and not {told}")
-            if place is None:
+            if place is None and not what.startswith("a batch"):
                 outcome = folder.run(b"find 10 red\n")
                 expect(outcome.shown == b"end 0 read 0\n", f"a journal with {what} has an entry: {outcome}")
     return f"{len(table)} damaged journals"
+
+
+def _model_place(journal: bytes) -> int | None:
+    """Where the model has a journal at fault."""
+    try:
+        Archive.loaded(journal, 0)
+    except NotArchive as place:
+        return int(str(place))
+    return None
 
 
 def damage_pages(program: str, audit: str) -> str:
@@ -110,7 +170,8 @@ def alter_journals(program: str, audit: str, *, is_all: bool) -> str:
     chance, refused, count = random.Random(7), 0, 5_000 if is_all else 600
     with Folder(program) as folder:
         some(folder)
-        expect(not (difference := folder.difference(SCRIPT)), difference)
+        for script in (SCRIPT, BATCH_SCRIPT):
+            expect(not (difference := folder.difference(script)), difference)
         journal, length = folder.journal.read_bytes(), folder.pages.stat().st_size
         for _ in range(count):
             altered = _altered(chance, journal)

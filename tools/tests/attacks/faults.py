@@ -6,12 +6,12 @@ import random
 import re
 from collections import Counter
 from dataclasses import dataclass
-from typing import Iterator
+from typing import Callable, Iterator
 
 from model import Outcome
 from scripts import Folder
 
-from attacks.rig import AUDIT_FAULT, DISK_FAULT, NO_LOCKS, SCRIPT, SINK_FAULT, SOURCE_FAULT, Whole, expect, nothing, some
+from attacks.rig import AUDIT_FAULT, DISK_FAULT, NO_LOCKS, RUNS, SCRIPT, SINK_FAULT, SOURCE_FAULT, Whole, expect, nothing, some
 
 FILES = [".", "archive.journal", "archive.pages"]
 CALL = re.compile(r"^\d+ +(\w+)\(", re.MULTILINE)
@@ -67,18 +67,23 @@ def _nth(fault: str, nth: int) -> str:
     return f"{fault[:-1]}:when={nth}+" if fault.endswith("+") else f"{fault}:when={nth}"
 
 
+def _told(fill: Callable[[Folder], None], script: bytes) -> str:
+    """What a run is on, in words."""
+    return ("a new archive" if fill is nothing else "an archive with plans") + (", with batches" if script is not SCRIPT else "")
+
+
 def fail_calls(program: str, audit: str, *, is_all: bool) -> str:
     """Each call on the files fails once; the run ends as it is to, and nothing is lost."""
     told, tracer = Counter[str](), Tracer(program, FILES)
-    for fill in (nothing, some):
-        whole = Whole.of(program, fill)
+    for fill, script in RUNS:
+        whole = Whole.of(program, fill, script)
         with Folder(program) as first:
             fill(first)
-            for name, fault in tracer.faults(first, Outcome(whole.shown, "", 0), 1 if is_all else 3):
+            for name, fault in tracer.faults(first, whole.outcome, 1 if is_all else 3, script):
                 with Folder(program) as folder:
                     fill(folder)
-                    outcome = tracer.run_with(folder, name, fault)
-                    what = f"{name} with {fault} on {'a new archive' if fill is nothing else 'an archive with plans'}"
+                    outcome = tracer.run_with(folder, name, fault, script)
+                    what = f"{name} with {fault} on {_told(fill, script)}"
                     whole.check_cut(folder, outcome, [NO_LOCKS if name == "flock" else DISK_FAULT], what)
                     told[name] += 1
     return f"{told.total()} calls on files that fail ({', '.join(f'{count} of {name}' for name, count in sorted(told.items()))})"
@@ -145,17 +150,17 @@ def _files(folder: Folder) -> list[bytes]:
 def die_at_calls(program: str, audit: str) -> str:
     """The program is killed at each call on the files that makes, changes or syncs one, before the call is made."""
     count, tracer = 0, Tracer(program, FILES)
-    for fill in (nothing, some):
-        whole = Whole.of(program, fill)
+    for fill, script in RUNS:
+        whole = Whole.of(program, fill, script)
         with Folder(program) as first:
             fill(first)
-            calls = {it for it, _ in tracer.faults(first, Outcome(whole.shown, "", 0), 1)} & {*WRITES, *SYNCS, "openat", "ftruncate"}
+            calls = {it for it, _ in tracer.faults(first, whole.outcome, 1, script)} & {*WRITES, *SYNCS, "openat", "ftruncate"}
             times = Counter(CALL.findall((first.path / "calls").read_text()))
         for name, nth in [(name, nth) for name in sorted(calls) for nth in range(1, times[name] + 1)]:
             with Folder(program) as folder:
                 fill(folder)
-                outcome = tracer.run(folder, "-e", f"inject={name}:signal=KILL:when={nth}")
-                what = f"a death at call {nth} of {name}"
+                outcome = tracer.run(folder, "-e", f"inject={name}:signal=KILL:when={nth}", script=script)
+                what = f"a death at call {nth} of {name} on {_told(fill, script)}"
                 expect(outcome.status in (-9, 137), f"{what}: {outcome}")
                 whole.check_cut(folder, outcome, [outcome], what)
                 count += 1

@@ -36,6 +36,8 @@ def _killed_often(program: str) -> Counter[str]:
     chance, told = random.Random(7), Counter[str]()
     while told.total() < DEATHS:
         with Folder(program) as folder:
+            if chance.randrange(3):
+                expect(not (difference := folder.difference(b"format 2\n")), f"the mark: {difference}")
             while told.total() < DEATHS and len(folder.archive.entries) < MOST_ENTRIES:
                 told[_killed(folder, chance)] += 1
             folder.was_cut = True
@@ -52,19 +54,28 @@ def _questions(folder: Folder) -> bytes:
 
 
 def _changes(folder: Folder, chance: random.Random) -> bytes:
-    """Changes and plans, most of which are allowed."""
+    """Changes, batches of them and plans, most of which are allowed."""
     last, lines = folder.archive.last, []
     for _ in range(COMMANDS):
         last += 1
         document, kind = chance.randint(1, 6), chance.randrange(40)
-        if kind < 30:
-            text = b" ".join(chance.choices([b"red", b"blue", b"sand"], [3, 1, 20], k=chance.randint(0, 3)))
-            lines.append(b"arrive %d %d %d\n%b\n" % (document, last, len(text), text))
+        if kind < 22:
+            lines.append(_arrival(document, last, chance))
+        elif kind < 30:
+            count = chance.randint(1, 9)
+            acts = (_arrival(chance.randint(1, 6), last + at, chance) for at in range(count))
+            lines.append(b"batch %d\n" % count + b"".join(acts))
+            last += count
         elif kind < 38:
             lines.append(b"delete %d %d\n" % (document, last))
         else:
             lines.append(chance.choice([b"plan red guarantee 3/2\n", b"plan red guarantee 1/1\n", b"plan blue space 2/1 uniform\n"]))
     return b"".join(lines)
+
+
+def _arrival(document: int, time: int, chance: random.Random) -> bytes:
+    text = b" ".join(chance.choices([b"red", b"blue", b"sand"], [3, 1, 20], k=chance.randint(0, 3)))
+    return b"arrive %d %d %d\n%b\n" % (document, time, len(text), text)
 
 
 def _killed(folder: Folder, chance: random.Random) -> str:
@@ -100,7 +111,7 @@ def _go_on(folder: Folder, script: bytes, shown: bytes) -> bool:
     count = max(len(archive.entries), acknowledged(shown))
     expect(count <= len(entries) <= count + 1, f"{count} entries were acknowledged, and the journal has {len(entries)}")
     for item in items(script):
-        is_change = item.words[0] in (b"arrive", b"delete", b"plan")
+        is_change = item.words[0] in (b"arrive", b"delete", b"plan", b"batch")
         if is_change and len(archive.entries) == len(entries) and len(replies) >= len(shown):
             break
         replies += archive.shown_of(item, Choice(entries, b""))

@@ -38,19 +38,34 @@ def reach_limits(program: str, audit: str) -> str:
         _arrive(1, 1, b"v" + bytes(TEXT)) + _arrive(1, 1, b"v" + bytes(TEXT - 1)) + b"find 1 v\n" + _arrive(2, 1, bytes(TEXT) + b"\xff"),
         b"no 5 TooLong 4194304\nok 1\nhit 1 1\nend 1 read 1\nno 5 TooLong 4194304\n",
     )
+    four, items = [_arrive(document, 2, bytes(TEXT)) for document in range(4)], 1_000
+    _expect(
+        program,
+        "the longest batch, and what is longer",
+        [bytes([5, 0, 2])],
+        b"".join([b"batch 5\n", *four, _arrive(4, 2, b"v")])
+        + b"".join([b"batch 1\n", _arrive(4, 2, bytes(TEXT + 1)), b"batch 5\n", *four, _arrive(4, 2, b"")])
+        + b"".join([b"batch %d\n" % items, *(_arrive(at, 3, b"v") for at in range(items))])
+        + b"batch %d\nfind 3 v\n" % (items + 1),
+        b"no 17 BatchTooLong 16777216\nno 5 TooLong 4194304 in 1\nok 2\nok 3\nno 1 Line\n"
+        + b"".join(b"hit %d 1\n" % at for at in range(items))
+        + b"end %d read %d\n" % (items, items),
+    )
     _expect(
         program,
         "an archive with all documents",
         (_arrival(document, 1, b"") for document in range(DOCUMENTS)),
-        b"arrive 1048576 2 1\nv\narrive 1048575 2 1\nv\ndelete 0 2\narrive 0 3 0\n\narrive 1048576 4 0\n\nfind 5 v\n",
-        b"no 10 Full documents 1048576\nok 1048577\nok 1048578\nok 1048579\nno 10 Full documents 1048576\nhit 1048575 1\nend 1 read 1\n",
+        b"arrive 1048576 2 1\nv\narrive 1048575 2 1\nv\ndelete 0 2\narrive 0 3 0\n\narrive 1048576 4 0\n\nfind 5 v\n"
+        b"format 2\nbatch 2\ndelete 0 5\narrive 1048576 5 1\nv\nbatch 2\ndelete 0 5\narrive 0 6 1\nv\n",
+        b"no 10 Full documents 1048576\nok 1048577\nok 1048578\nok 1048579\nno 10 Full documents 1048576\nhit 1048575 1\nend 1 read 1\n"
+        b"ok 1048580\nno 10 Full documents 1048576 in 2\nok 1048581\n",
     )
     _expect(
         program,
         "an archive with all versions but one",
         (_arrival(at % 9, at, b"") for at in range(VERSIONS - 1)),
-        b"arrive 0 4194303 0\n\narrive 0 4194304 1\nv\ndelete 0 4194304\narrive 10 4194304 1\nv\nfind 4194304 v\nverify\n",
-        b"ok 4194304\n" + 3 * b"no 10 Full versions 4194304\n" + b"end 0 read 0\nsound 0 0\n",
+        b"format 2\nbatch 2\narrive 0 4194303 0\n\narrive 1 4194303 0\n\nbatch 1\narrive 0 4194303 0\n\narrive 0 4194304 1\nv\ndelete 0 4194304\narrive 10 4194304 1\nv\nfind 4194304 v\nverify\n",
+        b"ok 4194304\nno 10 Full versions 4194304 in 2\nok 4194305\n" + 3 * b"no 10 Full versions 4194304\n" + b"end 0 read 0\nsound 0 0\n",
     )
     half = WORDS // 2
     texts = [b" ".join(b"%07x" % number for number in range(at, at + half)) for at in (0, half)]
@@ -58,8 +73,9 @@ def reach_limits(program: str, audit: str) -> str:
         program,
         "an archive with all words",
         (_arrival(document, 1, text) for document, text in enumerate(texts)),
-        _arrive(2, 2, b"one more") + _arrive(2, 2, b"0000000 00fffff") + b"find 2 00fffff\nfind 2 more\ncertificate more\n",
-        b"no 10 Full words 1048576\nok 3\nhit 1 1\nhit 2 1\nend 2 read 2\nend 0 read 0\nno 13 UnknownWord\n",
+        _arrive(2, 2, b"one more") + _arrive(2, 2, b"0000000 00fffff")
+        + b"format 2\nbatch 2\n" + _arrive(3, 2, b"0000001") + _arrive(4, 2, b"one more") + b"find 2 00fffff\nfind 2 more\ncertificate more\n",
+        b"no 10 Full words 1048576\nok 3\nok 4\nno 10 Full words 1048576 in 2\nhit 1 1\nhit 2 1\nend 2 read 2\nend 0 read 0\nno 13 UnknownWord\n",
     )
     _expect(
         program,
@@ -68,4 +84,4 @@ def reach_limits(program: str, audit: str) -> str:
         b"arrive 1 1048576 1\nv\npropose v guarantee 2/1\nplan v guarantee 1/1\nfind 1000000 v\nverify\n",
         b"ok 1048577\n" + 2 * b"no 9 TooWide 1048577\n" + b"hit 1 1\nend 1 read 524289\nsound 0 0\n",
     )
-    return "5 limits, and what goes beyond them"
+    return "6 limits, and what goes beyond them"

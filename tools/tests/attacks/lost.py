@@ -12,7 +12,7 @@ from typing import Iterator
 from model import OPEN
 from scripts import Folder
 
-from attacks.rig import Whole, acknowledged, expect, nothing, some
+from attacks.rig import RUNS, Whole, acknowledged, expect
 
 NAMES = [".", "archive.journal", "archive.pages"]
 CALLS = "openat,fcntl,pwrite64,ftruncate,fsync,fdatasync,write"
@@ -99,7 +99,8 @@ class Record:
 def lose_writes(program: str, audit: str, *, is_all: bool) -> str:
     """The power fails behind each call of some runs."""
     chance, moments, images = random.Random(7), 0, 0
-    scripts = [Whole.of(program, nothing), Whole.of(program, some), *(Whole.random(program, number) for number in range(10 if is_all else 3))]
+    runs = [Whole.of(program, *run) for run in RUNS]
+    scripts = [*runs, *(Whole.random(program, number) for number in range(10 if is_all else 3))]
     for whole in scripts:
         with Folder(program) as first:
             whole.fill(first)

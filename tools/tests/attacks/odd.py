@@ -13,7 +13,7 @@ from typing import Callable
 from model import HEADER, Outcome
 from scripts import Folder
 
-from attacks.rig import AUDIT_FAULT, DISK_FAULT, NEXT_SCRIPT, SCRIPT, SINK_FAULT, SOURCE_FAULT
+from attacks.rig import AUDIT_FAULT, DISK_FAULT, NEXT_SCRIPT, RUNS, SCRIPT, SINK_FAULT, SOURCE_FAULT
 from attacks.rig import Whole, acknowledged, ends, expect, nothing, some
 
 DONE = Outcome(b"", "", 0)
@@ -139,15 +139,15 @@ def odd_streams(program: str, audit: str) -> str:
 def full_disks(program: str, audit: str, *, is_all: bool) -> str:
     """Files that may not grow beyond each size in turn, and where a file system can be mounted, small disks."""
     count = 0
-    for fill in (nothing, some):
-        whole = Whole.of(program, fill)
+    for fill, script in RUNS:
+        whole = Whole.of(program, fill, script)
         with Folder(program) as folder:
             whole.fill(folder)
             least = folder.journal.stat().st_size if folder.journal.exists() else 0
         for limit in [*range(least, 1_600, 1 if is_all else 19), *range(4_096, 24_576, 64 if is_all else 1_117)]:
             with Folder(program) as folder:
                 whole.fill(folder)
-                outcome = folder.run_as([program], SCRIPT, preexec_fn=lambda: _limit(limit), restore_signals=False)
+                outcome = folder.run_as([program], script, preexec_fn=lambda: _limit(limit), restore_signals=False)
                 whole.check_cut(folder, outcome, [DISK_FAULT], f"files of at most {limit} bytes")
                 count += 1
     return f"{count} limits of a file's size, " + _small_disks(program)

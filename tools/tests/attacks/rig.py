@@ -35,6 +35,44 @@ show 2 15
 arrive 2 40 8
 red blue
 """
+#: Batches, some of which are refused: by the archive as a whole, for an item, and for an act. They end amid one.
+BATCH_SCRIPT = b"""batch 1
+delete 1 10
+format 2
+batch 3
+arrive 1 30 5
+red a
+
+# skipped
+arrive 2 30 8
+red blue
+arrive 3 31 3
+red
+find 30 red
+batch 2
+arrive 4 32 3
+red
+verify
+plan red guarantee 1/1
+batch 2
+delete 3 35
+delete 3 36
+batch 4
+delete 3 35
+arrive 2 36 0
+
+arrive 1 36 9
+blue blue
+arrive 3 37 4
+blue
+plan blue space 2/1 uniform
+batch 1
+batch 1
+between 5 40 blue or red
+verify
+batch 2
+delete 1 40
+"""
 #: What is asked and changed in the run after.
 NEXT_SCRIPT = b"""verify
 show 1 15
@@ -50,9 +88,17 @@ arrive 4 50 28
 red, and blue, and red again
 arrive 1 60 3
 red
+format 2
+batch 3
+arrive 2 60 4
+blue
+arrive 3 61 8
+red blue
+delete 4 62
 plan red guarantee 1/1
 plan blue space 3/1 since 20
 delete 1 70
+find 61 red
 find 55 red
 between 10 80 blue or red
 certificate red
@@ -154,6 +200,10 @@ def some(folder: Folder) -> None:
     changes, plans = b"arrive 1 1 3\nred\narrive 2 3 4\nblue\ndelete 1 4\n", [b"red guarantee 1/1", b"blue guarantee 1/1", b"red guarantee 2/1"]
     difference = folder.difference(changes + b"".join(b"plan %b\n" % it for it in plans))
     expect(not difference, f"an archive to begin with: {difference}")
+
+
+#: Archives to begin with, each with a script, that runs are cut short of.
+RUNS: list[tuple[Callable[[Folder], None], bytes]] = [(nothing, SCRIPT), (some, SCRIPT), (some, BATCH_SCRIPT)]
 
 
 def has_tracer() -> bool:

@@ -9,12 +9,14 @@ from collections import Counter
 from dataclasses import dataclass
 from pathlib import Path
 
+from .entries import BATCH, CLOSED, HEADER, MARK, MOST_TEXT, NOW, OPEN, PLAN, THE_MARK, Act, NotArchive, acts_of, records, spelled_batch
 from .planning import GUARANTEE, Plan, Posting, Stored, Table
 from .words import BadQuery, Query, one_term, parse, terms
 
-NOW = 1 << 40
-MOST_TEXT = 4_194_304
-HEADER = b"TIMETRAVELTEXT\x00\x01"
+#: The texts of a batch have at most so many bytes together.
+MOST_BATCH = 16_777_216
+#: A test may ask for an archive that is full sooner.
+MOST_DOCUMENTS = int(os.environ.get("FAKE_DOCUMENTS", 1 << 20))
 
 
 class Refusal(Exception):
@@ -31,7 +33,8 @@ class Version:
 
 
 class History:
-    """An archive in a folder, which it locks as it is opened; where another has the lock, a BlockingIOError tells."""
+    """An archive in a folder, which it locks as it is opened; where another has the lock, a BlockingIOError tells, and where the
+    journal is no archive's, a NotArchive."""
 
     def __init__(self, folder: Path, locks: bool = True) -> None:
         self._path = folder / "archive.journal"
@@ -41,31 +44,35 @@ class History:
         self._plans: dict[str, Stored] = {}
         self._lists: dict[str, list[Posting]] = {}
         self._gate = len(HEADER)
+        self._is_marked = False
         self._file = os.fdopen(os.open(self._path, os.O_RDWR | os.O_CREAT, 0o666), "r+b")
         if locks:
             fcntl.flock(self._file, fcntl.LOCK_EX | fcntl.LOCK_NB)
         if self._path.stat().st_size <= len(HEADER) + 1:
-            self._path.write_bytes(HEADER + b"\0")
+            self._path.write_bytes(HEADER + CLOSED)
         self._load()
 
-    def arrive(self, doc: int, time: int, text: bytes) -> list[str]:
-        if len(text) > MOST_TEXT:
-            raise Refusal(f"5 TooLong {MOST_TEXT}")
-        try:
-            text.decode()
-        except UnicodeDecodeError as error:
-            raise Refusal(f"6 BadText {error.start}") from None
-        self._in_time(time)
-        self._other_time(doc, time)
-        self._append(_change(1, doc, time) + text)
+    def change(self, act: Act) -> list[str]:
+        self._test(act)
+        self._append(act.spelled())
+        self._take_in(act)
         return [f"ok {self._length}"]
 
-    def delete(self, doc: int, time: int) -> list[str]:
-        self._in_time(time)
-        if doc not in self._versions or self._versions[doc][-1].text is None:
-            raise Refusal("4 NoDocument")
-        self._other_time(doc, time)
-        self._append(_change(2, doc, time))
+    def batch(self, members: list[Act | None]) -> list[str]:
+        """Carries out all acts of a batch or none; a member that is none is an item of another kind."""
+        acts = [act for act in members if act]
+        self._test_together(sum(len(act.text or b"") for act in acts))
+        if None in members:
+            raise Refusal(f"16 BatchLine {members.index(None) + 1}")
+        self._take_all_in(acts)
+        self._append(spelled_batch(acts))
+        return [f"ok {self._length}"]
+
+    def mark(self) -> list[str]:
+        if self._is_marked:
+            raise Refusal("19 HasFormat")
+        self._append(THE_MARK)
+        self._is_marked = True
         return [f"ok {self._length}"]
 
     def show(self, doc: int, time: int) -> bytes | None:
@@ -107,6 +114,7 @@ class History:
             plan, expected = table.bounded(*factor, since)
             cost = f" cost {expected}"
         self._append(Stored(key, kind, since, factor, plan).encode())
+        self._plans[key] = Stored(key, kind, since, factor, plan)
         return [
             f"plan {self._length} segments {len(plan.sizes)} space {plan.space} full {table.full} horizon {self._last}{cost}"
         ]
@@ -127,13 +135,44 @@ class History:
     def verify(self) -> list[str]:
         return [f"sound {len(self._plans)} {sum(len(stored.plan.sizes) for stored in self._plans.values())}"]
 
-    def _in_time(self, time: int) -> None:
-        if self._last is not None and time < self._last:
+    def _test(self, act: Act) -> None:
+        if len(act.text or b"") > MOST_TEXT:
+            raise Refusal(f"5 TooLong {MOST_TEXT}")
+        try:
+            (act.text or b"").decode()
+        except UnicodeDecodeError as error:
+            raise Refusal(f"6 BadText {error.start}") from None
+        if self._last is not None and act.time < self._last:
             raise Refusal(f"2 TimeBack {self._last}")
-
-    def _other_time(self, doc: int, time: int) -> None:
-        if doc in self._versions and self._versions[doc][-1].time == time:
+        versions = self._versions.get(act.doc)
+        if act.text is None and (not versions or versions[-1].text is None):
+            raise Refusal("4 NoDocument")
+        if versions and versions[-1].time == act.time:
             raise Refusal("3 SameTime")
+        if not versions and len(self._versions) >= MOST_DOCUMENTS:
+            raise Refusal(f"10 Full documents {MOST_DOCUMENTS}")
+
+    def _test_together(self, size: int) -> None:
+        if not self._is_marked:
+            raise Refusal("18 OldFormat")
+        if size > MOST_BATCH:
+            raise Refusal(f"17 BatchTooLong {MOST_BATCH}")
+
+    def _take_all_in(self, acts: list[Act]) -> None:
+        """Each act behind those before it. Where one is refused, they are let go again."""
+        last = self._last
+        for index, act in enumerate(acts, 1):
+            try:
+                self._test(act)
+            except Refusal as refusal:
+                for earlier in acts[: index - 1]:
+                    self._versions[earlier.doc].pop()
+                    if not self._versions[earlier.doc]:
+                        del self._versions[earlier.doc]
+                self._last = last
+                self._lists.clear()
+                raise Refusal(f"{refusal} in {index}") from None
+            self._take_in(act)
 
     def _query(self, expr: str) -> Query:
         try:
@@ -203,33 +242,43 @@ class History:
         return stored.plan if stored else None
 
     def _append(self, body: bytes) -> None:
-        self._file.seek(self._gate)
-        self._file.write(b"\xa5" + len(body).to_bytes(4, "big") + body + b"\0")
-        self._file.flush()
-        self._note(body)
+        for place, part in ((self._gate + 1, len(body).to_bytes(4, "big") + body + CLOSED), (self._gate, OPEN)):
+            self._file.seek(place)
+            self._file.write(part)
+            self._file.flush()
+        self._pass(body)
 
-    def _note(self, body: bytes) -> None:
+    def _pass(self, body: bytes) -> None:
         self._length += 1
         self._gate += 5 + len(body)
-        if body[0] == 3:
-            stored = Stored.decode(body)
-            self._plans[stored.key] = stored
-            return
-        doc, time, text = int.from_bytes(body[1:5], "big"), int.from_bytes(body[5:13], "big"), body[13:]
-        version = Version(time, text, terms(text.decode())) if body[0] == 1 else Version(time, None, Counter())
-        self._versions.setdefault(doc, []).append(version)
-        self._last = time
+
+    def _take_in(self, act: Act) -> None:
+        counts = Counter[str]() if act.text is None else terms(act.text.decode())
+        self._versions.setdefault(act.doc, []).append(Version(act.time, act.text, counts))
+        self._last = act.time
         self._lists.clear()
 
     def _load(self) -> None:
-        data = self._path.read_bytes()
-        while data[self._gate] == 0xA5:
-            size = int.from_bytes(data[self._gate + 1 : self._gate + 5], "big")
-            self._note(data[self._gate + 5 : self._gate + 5 + size])
+        for gate, body in records(self._path.read_bytes()):
+            if body[0] == PLAN:
+                stored = Stored.decode(body)
+                self._plans[stored.key] = stored
+            elif body[0] == MARK:
+                if self._is_marked:
+                    raise NotArchive(gate)
+                self._is_marked = True
+            else:
+                self._load_acts(gate, body)
+            self._pass(body)
 
-
-def _change(tag: int, doc: int, time: int) -> bytes:
-    return bytes([tag]) + doc.to_bytes(4, "big") + time.to_bytes(8, "big")
+    def _load_acts(self, gate: int, body: bytes) -> None:
+        acts = acts_of(body, gate + 5)
+        try:
+            if body[0] == BATCH:
+                self._test_together(sum(len(act.text or b"") for act in acts))
+            self._take_all_in(acts)
+        except Refusal:
+            raise NotArchive(gate) from None
 
 
 def _clipped(postings: list[Posting], start: int, end: int) -> list[Posting]:

@@ -6,12 +6,11 @@ import re
 from collections import Counter
 from dataclasses import dataclass
 from hashlib import sha256
-from struct import pack
 from typing import Iterator
 
-from .base import FOREVER, MOST_BYTES, MOST_DOCUMENTS, MOST_TEXT, MOST_VERSIONS, MOST_WORDS, PAGE
+from .base import FOREVER, MOST_BATCH, MOST_BYTES, MOST_DOCUMENTS, MOST_TEXT, MOST_VERSIONS, MOST_WORDS, PAGE
 from .base import Broken, Differs, NoCommand, NotArchive, Refused
-from .journal import Mark, Place, Plan, read_entry, read_journal, spell_journal, sublist
+from .journal import Batch, Change, Mark, Place, Plan, read_entry, read_journal, spell_journal, sublist
 from .plans import GUARANTEE, SINCE, UNIFORM, Line, Posting, stretches, test_segments, test_width, told
 from .script import Item, document_of, factor_of, items, query_behind, time_of
 from .words import Query, keys, one_key
@@ -66,8 +65,10 @@ class Archive:
                 elif isinstance(read, Plan):
                     archive._test_plan(read)
                     gates[read.key] = gate
+                elif isinstance(read, Batch):
+                    archive._test_batch(read)
                 else:
-                    archive._test_change(*read)
+                    archive._test_change(read)
             except Refused:
                 raise NotArchive(gate) from None
             archive._enter(entry)
@@ -98,13 +99,16 @@ class Archive:
         read = read_entry(entry)
         if isinstance(read, Plan):
             self.plans[read.key] = read
-            return
-        if isinstance(read, Mark):
+        elif isinstance(read, Mark):
             self.is_marked = True
-            return
-        document, self.last, text = read
-        counts = None if text is None else Counter(keys(text.decode()))
-        self.documents.setdefault(document, []).append(Version(self.last, text, counts))
+        else:
+            for change in read.changes if isinstance(read, Batch) else [read]:
+                self._note(change)
+
+    def _note(self, change: Change) -> None:
+        self.last = change.time
+        counts = None if change.text is None else Counter(keys(change.text.decode()))
+        self.documents.setdefault(change.document, []).append(Version(self.last, change.text, counts))
         self.words.update(counts or ())
         self._versions += 1
 
@@ -134,12 +138,12 @@ class Archive:
 
     def _reply(self, item: Item, choice: Choice) -> list[str] | bytes:
         match item.words:
-            case [b"arrive", document, time, _]:
-                return self._change(document_of([document]), time_of([time]), item.text)
-            case [b"delete", document, time]:
-                return self._change(document_of([document]), time_of([time]), None)
+            case [b"arrive" | b"delete", *_]:
+                return self._change(change_of(item))
             case [b"format", b"2"]:
                 return self._mark()
+            case [b"batch", *_] if item.members:
+                return self._batch(item.members)
             case [b"plan", word, b"guarantee", factor]:
                 return self._plan(word.decode(), GUARANTEE, factor_of(factor), 0, choice)
             case [b"plan", word, b"space", factor, b"uniform"]:
@@ -160,10 +164,21 @@ class Archive:
                 return [f"sound {len(self.plans)} {sum(len(it.places) for it in self.plans.values())}"]
         raise NoCommand
 
-    def _change(self, document: int, time: int, text: bytes | None) -> list[str]:
-        self._test_change(document, time, text)
-        head = pack(">BIQ", 2 if text is None else 1, document, time)
-        self._append(head + (text or b""))
+    def _change(self, change: Change) -> list[str]:
+        self._test_change(change)
+        self._append(change.entry())
+        return [f"ok {len(self.entries)}"]
+
+    def _batch(self, members: tuple[Item, ...]) -> list[str]:
+        self._test_batch_texts(sum(len(it.text) for it in members))
+        changes = []
+        for number, member in enumerate(members, 1):
+            try:
+                changes.append(change_of(member))
+            except NoCommand:
+                raise Refused(f"16 BatchLine {number}") from None
+        self._test_batch(Batch(tuple(changes)))
+        self._append(Batch(tuple(changes)).entry())
         return [f"ok {len(self.entries)}"]
 
     def _mark(self) -> list[str]:
@@ -180,8 +195,34 @@ class Archive:
         if self.is_marked:
             raise Refused("19 HasFormat")
 
-    def _test_change(self, document: int, time: int, text: bytes | None) -> None:
+    def _test_batch_texts(self, size: int) -> None:
+        """The tests of a batch whose texts have so many bytes together, before its items are looked at."""
+        if not self.is_marked:
+            raise Refused("18 OldFormat")
+        if size > MOST_BATCH:
+            raise Refused(f"17 BatchTooLong {MOST_BATCH}")
+
+    def _test_batch(self, batch: Batch) -> None:
+        """The tests of a batch of changes: each of them behind those before it."""
+        self._test_batch_texts(batch.size())
+        ahead = self._copy()
+        for number, change in enumerate(batch.changes, 1):
+            try:
+                ahead._test_change(change)
+            except Refused as refusal:
+                raise Refused(f"{refusal} in {number}") from None
+            ahead._note(change)
+
+    def _copy(self) -> Archive:
+        """The same texts, in an archive that may go on by itself."""
+        copy = Archive()
+        copy.documents = {document: [*versions] for document, versions in self.documents.items()}
+        copy.words, copy.last, copy._versions = {*self.words}, self.last, self._versions
+        return copy
+
+    def _test_change(self, change: Change) -> None:
         """The tests of an arrival, or of a deletion, in their order."""
+        document, time, text = change.document, change.time, change.text
         if text is not None and len(text) > MOST_TEXT:
             raise Refused(f"5 TooLong {MOST_TEXT}")
         try:
@@ -318,3 +359,13 @@ class Archive:
             postings = self.postings(key, 0, plan.horizon)
             for (start, end), place in zip(plan.segments(), plan.places):
                 yield place.page * PAGE, sublist(postings, start, end, plan.layout)
+
+
+def change_of(item: Item) -> Change:
+    """The arrival or the deletion that an item asks for."""
+    match item.words:
+        case [b"arrive", document, time, _]:
+            return Change(document_of([document]), time_of([time]), item.text)
+        case [b"delete", document, time]:
+            return Change(document_of([document]), time_of([time]), None)
+    raise NoCommand

@@ -2,13 +2,13 @@
 
 from __future__ import annotations
 
-
-
 #: No time is as late; where a span that hasn't ended yet ends.
 FOREVER = 1 << 40
 MOST_LINE, MOST_TEXT, MOST_KEY, MOST_OPEN, MOST_WEIGHT = 4_096, 4_194_304, 255, 64, 1_000
 MOST_DOCUMENTS, MOST_VERSIONS, MOST_WORDS, MOST_BYTES = 1 << 20, 1 << 22, 1 << 20, 1 << 40
 MOST_BOUNDARIES, PAGE = 1 << 20, 4_096
+#: Of the changes of a batch, and of the bytes of their texts together.
+MOST_ACTS, MOST_BATCH = 1_000, 1 << 24
 
 
 class Refused(Exception):

@@ -6,11 +6,12 @@ from dataclasses import dataclass
 from struct import pack
 from typing import Iterable
 
-from .base import FOREVER, MOST_BOUNDARIES, MOST_BYTES, MOST_TEXT, PAGE, NotArchive
+from .base import FOREVER, MOST_ACTS, MOST_BOUNDARIES, MOST_BYTES, MOST_TEXT, PAGE, NotArchive
 from .plans import SINCE, Posting
 
 HEADER, OPEN, CLOSED = b"TIMETRAVELTEXT\0\1", 0xA5, b"\0"
 FLAT, BLOCKS = 1, 2
+ARRIVE, DELETE, PLAN, BATCH, MARK = range(1, 6)
 
 
 @dataclass(frozen=True)
@@ -27,11 +28,38 @@ class Place:
 
 
 @dataclass(frozen=True)
+class Change:
+    """A document's version at a time, or its deletion, which has no text."""
+
+    document: int
+    time: int
+    text: bytes | None
+
+    def entry(self) -> bytes:
+        return pack(">BIQ", DELETE if self.text is None else ARRIVE, self.document, self.time) + (self.text or b"")
+
+
+@dataclass(frozen=True)
+class Batch:
+    """Changes that come all at once."""
+
+    changes: tuple[Change, ...]
+
+    def size(self) -> int:
+        """The bytes of the texts together."""
+        return sum(len(it.text or b"") for it in self.changes)
+
+    def entry(self) -> bytes:
+        spelled = [it.entry() for it in self.changes]
+        return pack(">BI", BATCH, len(spelled)) + b"".join(pack(">I", len(it)) + it for it in spelled)
+
+
+@dataclass(frozen=True)
 class Mark:
     """The mark of a journal that may have batches."""
 
     def entry(self) -> bytes:
-        return pack(">BH", 5, 2)
+        return pack(">BH", MARK, 2)
 
 
 @dataclass(frozen=True)
@@ -54,7 +82,7 @@ class Plan:
         since = pack(">Q", self.since) if self.kind == SINCE else b""
         key = self.key.encode()
         places = b"".join(pack(">QIQ", it.cut, it.page, it.size) + it.digest for it in self.places)
-        head = pack(">BBB", 3, self.layout, self.kind) + since + pack(">IIQB", *self.factor, self.horizon, len(key))
+        head = pack(">BBB", PLAN, self.layout, self.kind) + since + pack(">IIQB", *self.factor, self.horizon, len(key))
         return head + key + pack(">I", len(self.places)) + places
 
 
@@ -130,28 +158,51 @@ class _Fields:
             self.at -= size
             self.hold(False)
 
+    def end(self) -> None:
+        """Nothing stands behind the fields."""
+        self.hold(self.at == len(self.entry))
+
     def hold(self, is_allowed: bool) -> None:
         if not is_allowed:
             raise NotArchive(self.origin + self.at)
 
 
-def read_entry(entry: bytes, at: int = 0) -> tuple[int, int, bytes | None] | Plan | Mark:
-    """An entry: a document's version at a time, its deletion, which has no text, a plan, or the mark."""
+def read_entry(entry: bytes, at: int = 0) -> Change | Plan | Batch | Mark:
+    """An entry, which begins at a place of the journal."""
     fields = _Fields(entry, at)
-    fields.hold(entry[:1] != b"\4")
-    tag = fields.number(1, 1, 6)
-    if tag == 3:
+    tag = fields.number(1, ARRIVE, MARK + 1)
+    if tag == PLAN:
         return _read_plan(fields)
-    if tag == 5:
+    if tag == BATCH:
+        return _read_batch(fields)
+    if tag == MARK:
         fields.number(2, 2, 3)
-        fields.hold(fields.at == len(entry))
+        fields.end()
         return Mark()
+    return _read_change(fields, tag)
+
+
+def _read_change(fields: _Fields, tag: int) -> Change:
+    """A change, from behind its tag to the end of its bytes."""
     document, time = fields.number(4), fields.number(8, 0, FOREVER)
-    if tag == 2:
-        fields.hold(fields.at == len(entry))
-        return document, time, None
-    fields.hold(len(entry) - fields.at <= MOST_TEXT)
-    return document, time, fields.text(len(entry) - fields.at).encode()
+    if tag == DELETE:
+        fields.end()
+        return Change(document, time, None)
+    size = len(fields.entry) - fields.at
+    fields.hold(size <= MOST_TEXT)
+    return Change(document, time, fields.text(size).encode())
+
+
+def _read_batch(fields: _Fields) -> Batch:
+    """The changes of a batch, each of which ends where its length tells."""
+    changes = []
+    for _ in range(fields.number(4, 1, MOST_ACTS + 1)):
+        size = fields.number(4)
+        begin = fields.origin + fields.at
+        change = _Fields(fields.take(size), begin)
+        changes.append(_read_change(change, change.number(1, ARRIVE, DELETE + 1)))
+    fields.end()
+    return Batch(tuple(changes))
 
 
 def _read_plan(fields: _Fields) -> Plan:
@@ -166,5 +217,5 @@ def _read_plan(fields: _Fields) -> Plan:
         cut = fields.number(8, places[-1].cut + 1 if places else 0, horizon)
         page = fields.number(4, 0, MOST_BYTES // PAGE)
         places.append(Place(cut, page, fields.number(8, 0, MOST_BYTES - page * PAGE + 1), fields.take(32)))
-    fields.hold(fields.at == len(fields.entry))
+    fields.end()
     return Plan(layout, kind, since, factor, horizon, key, tuple(places))

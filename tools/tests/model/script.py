@@ -7,16 +7,18 @@ from dataclasses import dataclass
 from datetime import date
 from typing import Iterator
 
-from .base import FOREVER, MOST_LINE, Broken, NoCommand
+from .base import FOREVER, MOST_ACTS, MOST_LINE, Broken, NoCommand
 
 
 @dataclass(frozen=True)
 class Item:
-    """A line that isn't skipped, its words, and the text behind it where it is an arrival."""
+    """A line that isn't skipped, its words, the text behind it where it is an arrival, and the items that belong to it where it
+    begins a batch."""
 
     line: bytes
     words: list[bytes]
     text: bytes = b""
+    members: tuple[Item, ...] = ()
 
 
 def items(script: bytes) -> Iterator[Item]:
@@ -27,17 +29,23 @@ def items(script: bytes) -> Iterator[Item]:
         if item is None:
             continue
         if item.words[0] == b"batch" and _is_batch(item.words):
-            wanted = int(item.words[1])
-            while wanted and at < len(script):
-                inside, at = _item(script, at)
-                wanted -= inside is not None
-            if wanted:
-                raise Broken(len(script))
+            item, at = _batch(script, item, at)
         yield item
 
 
 def _is_batch(words: list[bytes]) -> bool:
-    return len(words) == 2 and words[1].isdigit() and 1 <= int(words[1]) <= 1_000
+    return len(words) == 2 and words[1].isdigit() and 1 <= int(words[1]) <= MOST_ACTS
+
+
+def _batch(script: bytes, begin: Item, at: int) -> tuple[Item, int]:
+    """A batch with its items, which begin at a place. The line of another batch among them is one of them by itself."""
+    members: list[Item] = []
+    while len(members) < int(begin.words[1]):
+        if at >= len(script):
+            raise Broken(len(script))
+        member, at = _item(script, at)
+        members += [member] if member else []
+    return Item(begin.line, begin.words, members=tuple(members)), at
 
 
 def _item(script: bytes, start: int) -> tuple[Item | None, int]:

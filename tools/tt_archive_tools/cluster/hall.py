@@ -26,6 +26,8 @@ from .desk import Desk, Engine
 
 #: So much is received before a program is called, which whoever asks meanwhile waits for; a command may be longer.
 _CALL = 1 << 16
+#: No command is longer: a batch of the longest lines and texts.
+_MOST_COMMAND = commands.MOST_BYTES_OF_BATCH + (commands.MOST_OF_BATCH + 1) * (commands.MOST_LINE + 2)
 
 
 class Cutter:
@@ -48,21 +50,31 @@ class Cutter:
         return line
 
     def commands(self) -> list[bytes]:
-        """The commands that are whole, an arrival with its text."""
+        """The commands that are whole, an arrival with its text, and a batch with its changes."""
         found = []
         at = 0
-        while end := self._received.find(b"\n", at) + 1:
-            line = self._received[at:end]
-            if line.startswith(b"arrive "):
-                end += int(line.rpartition(b" ")[2]) + 1
-                if end > len(self._received):
-                    break
+        while end := self._end(at):
             found.append(bytes(self._received[at:end]))
             at = end
         del self._received[:at]
-        if not found and len(self._received) > commands.MOST_LINE + commands.MOST_TEXT + 2:
+        if not found and len(self._received) > _MOST_COMMAND:
             raise ToolError("a command is longer than any may be")
         return found
+
+    def _end(self, at: int) -> int:
+        """Where the command ends that begins at a place; 0 where it isn't whole."""
+        end = self._end_alone(at)
+        if self._received.startswith(b"batch ", at) and end:
+            for _ in range(int(self._received[at + 6 : end])):
+                end = end and self._end_alone(end)
+        return end
+
+    def _end_alone(self, at: int) -> int:
+        """The same, where the line of a batch is a command by itself."""
+        end = self._received.find(b"\n", at) + 1
+        if end and self._received.startswith(b"arrive ", at):
+            end += int(self._received[at:end].rpartition(b" ")[2]) + 1
+        return end if end <= len(self._received) else 0
 
 
 class Hall:

@@ -9,11 +9,12 @@ from contextlib import ExitStack
 from pathlib import Path
 from typing import NamedTuple, Sequence
 
+from .. import commands
 from ..copying import Extent, JournalFile, Piece
 from ..errors import InUse, ProgramFailed, ToolError
 from ..locks import Claim, Use, locked
 from ..program import AT_WORK, JOURNAL, Program, Shard
-from ..replies import Refused, ReplyReader
+from ..replies import Gone, Refused, ReplyReader
 from ..sides import FIRST_QUESTION, LAST_TIME, End, explained_end
 
 #: A program whose tt or worker was killed works on until it finds that its input has ended; so long it is waited for.
@@ -106,11 +107,15 @@ class ShardProgram:
             raise ProgramFailed(self._why)
         rest = memoryview(script)
         pieces: list[bytes] = []
-        while count > 0:
+        # A program that doesn't know batches has one reply more to the question for them, which ends with that to a text.
+        is_more = script == commands.asks_for_batches()
+        while count > 0 or is_more:
             rest = self._program.write(rest)
             if self._printing.poll(0 if rest else None):
                 pieces.append(self._program.printed())
-                count -= sum(1 for _ in self._reader.replies(pieces[-1]))
+                for reply in self._reader.replies(pieces[-1]):
+                    count -= 1
+                    is_more = is_more and reply != Gone()
                 if self._program.ended:
                     self._ended()
             elif rest:

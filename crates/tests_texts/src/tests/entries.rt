@@ -70,7 +70,7 @@ fn the_mark_has_three_bytes(rt: HostRuntime) {
         (spelled.as_slice(), marks(alloc, &MARK)),
         (MARK.as_slice(), true),
     );
-    // another number, one that is cut short, and a byte too many
+    // another number, one that is cut short, a byte too many, and the tag of a batch
     let places = [
         named(alloc, &[5, 0, 3]),
         named(alloc, &[5, 0]),
@@ -78,7 +78,7 @@ fn the_mark_has_three_bytes(rt: HostRuntime) {
         named(alloc, &[5, 0, 2, 0]),
         named(alloc, &[4, 0, 2]),
     ];
-    expect_same(&rt, places, [Some(1), Some(1), Some(1), Some(3), Some(0)]);
+    expect_same(&rt, places, [Some(1), Some(1), Some(1), Some(3), Some(1)]);
 }
 
 /// The place that bytes name which spell no entry.

@@ -104,10 +104,11 @@ fn a_plan_since_a_time_has_eight_bytes_more(rt: HostRuntime) {
 }
 
 /// Places in the plan in blocks, a byte put there, and the place that is named.
-const FAULTS: [(usize, u8, u64); 30] = [
-    // A plan read as an arrival, and a tag that none has.
+const FAULTS: [(usize, u8, u64); 31] = [
+    // A plan read as an arrival and as a batch, and a tag that none has.
     (0, 1, 5),
-    (0, 4, 0),
+    (0, 4, 1),
+    (0, 6, 0),
     // The layout and the kind.
     (1, 0, 1),
     (1, 3, 1),

@@ -1,4 +1,4 @@
-use Rattle.std.proofs.Common.{◌+◌, ◌∷◌, [], ◌++◌, Err, refl, ap, inr, sym, subst}
+use Rattle.std.proofs.Common.{◌∷◌, [], ◌++◌, Err, refl, ap, inr, sym, subst}
 use Rattle.std.proofs.lemmas.Result.{IfOk-weaker}
 use Rattle.journal_entries.specs.declared.entry.Entry.TheVariants as entries
 use Rattle.base_commands.specs.declared.command.Command.TheVariants as commands

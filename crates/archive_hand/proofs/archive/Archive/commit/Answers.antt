@@ -14,9 +14,9 @@ use Rattle.lists_index.specs.Indexing.{IndexValue, AreIndexed}
 use Rattle.lists_index.specs.Measuring.{IsMeasured}
 use Rattle.archive_entries.specs.Entries.{IsHeld}
 use Rattle.archive_hand.specs.Adding.{IsMore}
-use Rattle.archive_hand.specs.States.{ArchiveState, StandsFor}
+use Rattle.archive_hand.specs.States.{ArchiveState, StandsFor, IsSound}
 use Rattle.archive_plans.specs.Shelves.{extents_all}
-use Rattle.archive_hand.proofs.CacheLemmas.{cached_on}
+use Rattle.archive_hand.proofs.CacheLemmas.{cached_on, is_sound, stands_live}
 use Rattle.journal_gates.proofs.InStepLemmas.{step_at}
 use Rattle.archive_hand.proofs.AddLemmas.{appends_nowhere, inside_on, pages_nowhere, stands_more}
 use Rattle.archive_hand.proofs.archive.Archive.commit.Given.{Over}
@@ -77,12 +77,13 @@ more g c =
 
 pub invariant_of-self-in-Ok : goal.invariant_of-self-in-Ok
 invariant_of-self-in-Ok g c =
-    let (h, stands) = c.self.invariant.2 in
-    let now = subst (λ (a : ArchiveState). StandsFor a h) c.self.view_is stands in
+    let sound : IsSound c.args.self.now = subst IsSound c.self.view_is c.self.invariant.2 in
+    let h = sound.0 in
+    let now : StandsFor c.args.self.now h = stands_live c.args.self.now sound c.requires.live in
     let (e, next, prepared) = c.requires.next h now in (
       λ live. search rules,
       omega (arith, c.self.invariant.1, c.in-Ok.ensures.end),
-      (h ++ e ∷ [], stands_more c.args.self.now _ h e c.args.prepared.change c.args.prepared.body.items c.args.prepared.words now next prepared (more g c)),
+      is_sound _ (h ++ e ∷ []) (stands_more c.args.self.now _ h e c.args.prepared.change c.args.prepared.body.items c.args.prepared.words now next prepared (more g c)),
     )
 
 pub returns-in-Ok-clause-more : goal.returns-in-Ok-clause-more

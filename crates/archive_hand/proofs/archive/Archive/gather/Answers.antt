@@ -2,7 +2,7 @@ use Rattle.std.proofs.Common.{◌≡◌, ◌<◌, length, ap, subst, sym}
 use Rattle.lists_index.specs.Indexes.{state_of}
 use Rattle.archive_plans.specs.Shelves.{ShelfState}
 use Rattle.archive_hand.specs.States.{ArchiveState, IsSameButCache, Reaches}
-use Rattle.archive_hand.proofs.CacheLemmas.{stands_but_cache}
+use Rattle.archive_hand.proofs.CacheLemmas.{sound_but_cache}
 use Rattle.archive_hand.proofs.ReadableLemmas.{readable}
 use Rattle.archive_hand.proofs.archive.Archive.gather.Goals as goal
 
@@ -22,7 +22,7 @@ invariant_of-self g c =
     let a : ArchiveState = record { end = c.self.inside.journal.end; live = c.self.inside.live; length = c.self.inside.entries; changes = c.self.inside.directory.changes; index = state_of c.self.inside.index; shelf = c.self.inside.shelf; marked = c.self.inside.marked } in (
       c.self.invariant.0,
       c.self.invariant.1,
-      (c.self.invariant.2.0, stands_but_cache a (record a { shelf = c.gather.new.self }) c.self.invariant.2.0 (but_cache a c.gather.new.self c.gather.ensures.kept) c.self.invariant.2.1),
+      sound_but_cache a (record a { shelf = c.gather.new.self }) (but_cache a c.gather.new.self c.gather.ensures.kept) c.self.invariant.2,
     )
 
 pub returns-clause-but_cache : goal.returns-clause-but_cache

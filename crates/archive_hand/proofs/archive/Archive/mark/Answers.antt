@@ -1,4 +1,4 @@
-use Rattle.std.proofs.Common.{◌≡◌, ◌+◌, ◌++◌, ◌∷◌, [], ℕ, List, All, length, Err, false, refl, ap, sym, subst, ◌∙◌, arith, rules}
+use Rattle.std.proofs.Common.{◌≡◌, ◌++◌, ◌∷◌, [], ℕ, List, All, length, Err, false, refl, ap, sym, subst, ◌∙◌, arith, rules}
 use Rattle.machine_model.specs.declared.area.Area.TheVariants.{Journal, Pages}
 use Rattle.pages_area.specs.Live.{IsInside}
 use Rattle.journal_gates.specs.Crash.{Appends}
@@ -10,7 +10,8 @@ use Rattle.journal_entries.specs.Spelling.{spelling}
 use Rattle.journal_entries.specs.declared.entry.Entry.TheVariants.{Format}
 use Rattle.model_archive.specs.Histories.{History}
 use Rattle.archive_plans.specs.Shelves.{extents_all}
-use Rattle.archive_hand.specs.States.{ArchiveState, StandsFor}
+use Rattle.archive_hand.specs.States.{ArchiveState, StandsFor, IsSound}
+use Rattle.archive_hand.proofs.CacheLemmas.{is_sound, stands_live}
 use Rattle.archive_hand.proofs.AddLemmas.{appends_nowhere, inside_on, pages_nowhere, stands_marked, unrefused, with_mark}
 use Rattle.archive_hand.proofs.archive.Archive.mark.Given.{Over}
 use Rattle.archive_hand.proofs.archive.Archive.mark.Goals as goal
@@ -55,10 +56,11 @@ marks g c h now =
 
 pub invariant_of-self-in-Ok : goal.invariant_of-self-in-Ok
 invariant_of-self-in-Ok g c =
-    let (h, stands) = c.self.invariant.2 in (
+    let sound : IsSound c.args.self.now = subst IsSound c.self.view_is c.self.invariant.2 in
+    let h = sound.0 in (
       λ live. search rules,
       omega (arith, c.self.invariant.1, c.in-Ok.ensures.end),
-      (h ++ Format ∷ [], rw (← c.self.view_is) at (marks g c h (subst (λ (a : ArchiveState). StandsFor a h) c.self.view_is stands))),
+      is_sound _ (h ++ Format ∷ []) (rw (← c.self.view_is) at (marks g c h (stands_live c.args.self.now sound c.requires.live))),
     )
 
 pub returns-in-Ok-clause-stands : goal.returns-in-Ok-clause-stands

@@ -9,14 +9,14 @@ use Rattle.model_archive.specs.Histories.{History}
 use Rattle.model_archive.specs.Plans.{with_plan, live_extents}
 use Rattle.archive_hand.specs.Adding.{HasSameShelf}
 use Rattle.model_archive.specs.Stands.{bodies_of}
-use Rattle.archive_hand.specs.States.{ArchiveState, StandsFor, AreInStepBy, with_entry}
+use Rattle.archive_hand.specs.States.{ArchiveState, StandsFor, IsSound, AreInStepBy, with_entry}
 use Rattle.archive_plans.specs.Shelves.{extents_all}
 use Rattle.archive_plans.specs.Readying.{IsFull, summary_of, tells_of}
 use Rattle.archive_hand.proofs.AddLemmas.{bodies_more, inside_on}
 use Rattle.archive_hand.proofs.GiveUpLemmas.{given_up_cached, given_up_refused}
 use Rattle.archive_hand.proofs.ByReadsLemmas.{all_same, same_as}
 use Rattle.archive_hand.proofs.PutLemmas.{begun_keeps, put_there}
-use Rattle.archive_hand.proofs.CacheLemmas.{cached_on}
+use Rattle.archive_hand.proofs.CacheLemmas.{cached_on, is_sound, stands_live}
 use Rattle.archive_hand.proofs.StoreLemmas.{ready_storable, ready_stored, stands_planned, placed_inside, same_shelf, stands_still}
 use Rattle.archive_hand.proofs.archive.Archive.store.Given.{Over}
 use Rattle.archive_hand.proofs.archive.Archive.store.Goals as goal
@@ -47,10 +47,11 @@ planned g c h now =
 
 pub invariant_of-self-in-Ok-write_ready : goal.invariant_of-self-in-Ok-write_ready
 invariant_of-self-in-Ok-write_ready g c =
-    let (h, stands) = c.self.invariant.2 in (
+    let sound : IsSound c.args.self.now = subst IsSound c.self.view_is c.self.invariant.2 in
+    let h = sound.0 in (
       λ live. search rules,
       omega (arith, c.self.invariant.1, c.in-Ok-write_ready.ensures.end),
-      (h ++ entries.Planned c.in-Ok.ready.stored.plan ∷ [], planned g c h (subst (λ (s : ArchiveState). StandsFor s h) c.self.view_is stands)),
+      is_sound _ (h ++ entries.Planned c.in-Ok.ready.stored.plan ∷ []) (planned g c h (stands_live c.args.self.now sound c.requires.live)),
     )
 
 pub returns-in-Ok-write_ready-clause-within : goal.returns-in-Ok-write_ready-clause-within
@@ -87,7 +88,8 @@ returns-in-Err-write_ready-clause-within g c =
 
 pub returns-in-Err-write_ready-clause-spent : goal.returns-in-Err-write_ready-clause-spent
 returns-in-Err-write_ready-clause-spent g c = λ is.
-    let (h, stands) = c.self.invariant.2 in
+    let h = c.self.invariant.2.0 in
+    let stands = c.self.invariant.2.1 in
     let spent = c.in-Err-write_ready.ensures.spent in
     let pages = subst (λ (l : List StoredPlan). HasTaken c.write_ready.new.shelf.pages (extents_all l)) (c.in-Ok.ensures.plans ∙ stands.plans_are) spent.2 in
     let view = c.self.view_is in
