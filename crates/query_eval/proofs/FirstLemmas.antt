@@ -132,10 +132,6 @@ in-front made row r c = Contains-append_left made (row ∷ []) r c
 at-end : (made : List Row) (row : Row) → Contains (made ++ row ∷ []) row
 at-end made row = Contains-append_right made (row ∷ []) row (here row [])
 
--- nothing is made yet
-pub front-begun : (count : ℕ) → IsFront count [] [] None
-front-begun count = record { only = λ r c. c; rest = λ r c. inl c; bar = tt }
-
 -- what is enough among some rows is so among more
 enough-more : {P : Row → Type 0} (count : ℕ) (kept more : List Row) → ((r : Row) → Contains kept r → Contains more r) → AreEnough count kept P → AreEnough count more P
 enough-more count kept more into e = record { some = e.some; ranked = e.ranked; enough = e.enough; among = λ r c. into r (e.among r c); each = e.each }
@@ -266,6 +262,3 @@ wanted-weaker wanted rows so (all, is, cut) = (all, so all is, cut)
 -- where all are asked for, it is so of them
 pub wanted-all : (P : List Row → Type 0) (rows : List Row) → AreWantedOf All P rows → P rows
 wanted-all P rows (all, is, same) = subst P (sym same) is
-
-pub all-wanted : {P : List Row → Type 0} (rows : List Row) → P rows → AreWantedOf All P rows
-all-wanted rows is = (rows, is, refl)
