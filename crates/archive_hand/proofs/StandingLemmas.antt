@@ -16,6 +16,7 @@ use Rattle.base_commands.specs.declared.command.Command.{Command}
 use Rattle.base_commands.specs.declared.command.Command.TheVariants as commands
 use Rattle.base_commands.specs.declared.command.Item.{Item}
 use Rattle.base_commands.specs.declared.command.Item.TheVariants as items
+use Rattle.base_commands.specs.declared.count.TopCount.{TopCount}
 use Rattle.base_commands.specs.declared.command.Kind.{Kind}
 use Rattle.base_commands.specs.declared.command.Kind.TheVariants.{Guarantee, Uniform, Since}
 use Rattle.base_commands.specs.declared.batch.BatchItems.TheVariants as batches
@@ -184,6 +185,15 @@ found s at expr reply next standing (Ok query, read, (rows, count, made, is), as
 found s at expr reply next standing (Err place, read, is, asks) =
     let same = asks_same s next at.seconds (at.seconds + 1) (Err place) asks in ((same.0, (Err place, read, is)), same_next s next same.0 same.1 standing)
 
+topped : (s : Store) (count : TopCount) (at : Time) (expr : List ℕ) (reply : Reply) (next : Store) → IsStanding s → StoreStep s (items.Command (commands.Top count at expr)) reply next
+    → Step (world_of s.history) (items.Command (commands.Top count at expr)) reply (world_of next.history) × IsStanding next
+topped s count at expr reply next standing (Ok query, read, (rows, number, made, is), asks) =
+    let same = asks_same s next at.seconds (at.seconds + 1) (Ok query) asks in
+    let stands = made_at s.history s.pages at.seconds query rows number standing.loadable standing.held at.before_now made in
+    ((same.0, (Ok query, read, (rows, number, stands.0, stands.1, is))), same_next s next same.0 same.1 standing)
+topped s count at expr reply next standing (Err place, read, is, asks) =
+    let same = asks_same s next at.seconds (at.seconds + 1) (Err place) asks in ((same.0, (Err place, read, is)), same_next s next same.0 same.1 standing)
+
 spanned : (s : Store) (span : Span) (expr : List ℕ) (reply : Reply) (next : Store) → IsStanding s → StoreStep s (items.Command (commands.Between span expr)) reply next
     → Step (world_of s.history) (items.Command (commands.Between span expr)) reply (world_of next.history) × IsStanding next
 spanned s span expr reply next standing (Ok query, read, (rows, count, made, is), asks) =
@@ -200,6 +210,7 @@ step_standing s (items.Command commands.Format) reply next standing range (step,
 step_standing s (items.Command (commands.Batch batch)) reply next standing range (step, stocks) = changed s next (commands.Batch batch) reply standing range step step stocks
 step_standing s (items.Command (commands.Plan word kind fraction)) reply next standing range (step, stocks) = changed s next (commands.Plan word kind fraction) reply standing range step step stocks
 step_standing s (items.Command (commands.Find at expr)) reply next standing range step = found s at expr reply next standing step
+step_standing s (items.Command (commands.Top count at expr)) reply next standing range step = topped s count at expr reply next standing step
 step_standing s (items.Command (commands.Between span expr)) reply next standing range step = spanned s span expr reply next standing step
 step_standing s (items.Command (commands.Show doc at)) reply next standing range (reads, is) =
     let history = ap (λ (x : Store). x.history) reads in ((history, is), same_next s next history (ap (λ (x : Store). x.pages) reads) standing)
@@ -218,6 +229,8 @@ step_standing s other reply next standing range (same, is) =
 -- and nothing is damaged of what is read for an item
 pub spoiled_never : (s : Store) (item : Item) (damage : Damage) → IsStanding s → Spoils s item damage → ⊥
 spoiled_never s (items.Command (commands.Find at expr)) damage standing spoils =
+    held_undamaged s.history s.pages spoils.first.word at.seconds (at.seconds + 1) damage standing.loadable standing.held spoils.first.damaged
+spoiled_never s (items.Command (commands.Top count at expr)) damage standing spoils =
     held_undamaged s.history s.pages spoils.first.word at.seconds (at.seconds + 1) damage standing.loadable standing.held spoils.first.damaged
 spoiled_never s (items.Command (commands.Between span expr)) damage standing spoils =
     held_undamaged s.history s.pages spoils.first.word span.from span.to damage standing.loadable standing.held spoils.first.damaged

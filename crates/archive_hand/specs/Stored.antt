@@ -1,6 +1,6 @@
 -- An archive by what reads give: what an item of the input does to it, and what is replied. Nothing is asked of what lies in Pages: where it holds what
 -- the history's plans need, this is the abstract archive's step over the history.
-use Rattle.std.specs.Prelude.{◌≡◌, ℕ, ◌+◌, List, [], ◌∷◌, ◌++◌, length, All, Result, Ok, Err}
+use Rattle.std.specs.Prelude.{◌≡◌, ℕ, ◌+◌, List, [], ◌∷◌, ◌++◌, length, take, All, Result, Ok, Err}
 use Rattle.machine_model.specs.Areas.{Bytes}
 use Rattle.machine_model.specs.Images.{MayLeave}
 use Rattle.machine_model.specs.States.{DiskState}
@@ -14,6 +14,7 @@ use Rattle.pages_area.specs.Ranges.{bytes_in}
 use Rattle.pages_area.specs.Taken.{AreApart}
 use Rattle.journal_entries.specs.declared.entry.Entry.TheVariants as entries
 use Rattle.journal_entries.specs.declared.plan.PlanEntry.{PlanEntry}
+use Rattle.base_commands.specs.declared.count.TopCount.{TopCount}
 use Rattle.base_commands.specs.declared.command.Command.{Command}
 use Rattle.base_commands.specs.declared.command.Command.TheVariants as commands
 use Rattle.base_commands.specs.declared.command.Item.{Item}
@@ -69,7 +70,11 @@ Changes old command reply new = CarriesOut old.history command reply new.history
 abbrev pub MakesAt : Store → Time → Query → Reply → Type 0
 MakesAt store at query reply = (rows : List Row) × (read : ℕ) × IsMadeAt store.history store.pages at.seconds query rows read × (reply ≡ Found rows read)
 
--- the same over a window
+-- the first rows of these
+abbrev pub MakesTop : Store → TopCount → Time → Query → Reply → Type 0
+MakesTop store count at query reply = (rows : List Row) × (read : ℕ) × IsMadeAt store.history store.pages at.seconds query rows read × (reply ≡ Found (take count.number rows) read)
+
+-- what is found over a window, by the lists that are chosen
 abbrev pub MakesOver : Store → Span → Query → Reply → Type 0
 MakesOver store span query reply = (rows : List SpanRow) × (read : ℕ) × IsMadeOver store.history store.pages span.from span.to query rows read × (reply ≡ Spanned rows read)
 
@@ -110,6 +115,7 @@ StoreStep old (items.Command commands.Format) reply new = Changes old commands.F
 StoreStep old (items.Command (commands.Batch batch)) reply new = Changes old (commands.Batch batch) reply new
 StoreStep old (items.Command (commands.Plan word kind fraction)) reply new = Changes old (commands.Plan word kind fraction) reply new
 StoreStep old (items.Command (commands.Find at expr)) reply new = Answers (MakesAt old at) old at.seconds (at.seconds + 1) expr reply new
+StoreStep old (items.Command (commands.Top count at expr)) reply new = Answers (MakesTop old count at) old at.seconds (at.seconds + 1) expr reply new
 StoreStep old (items.Command (commands.Between span expr)) reply new = Answers (MakesOver old span) old span.from span.to expr reply new
 StoreStep old (items.Command (commands.Show doc at)) reply new = ReadsOn old new × (reply ≡ Version (text_at old.history doc at.seconds))
 StoreStep old (items.Command (commands.Propose word fraction)) reply new = (new ≡ old) × Proposes old.history word fraction reply
@@ -124,6 +130,7 @@ IsSameStore old new = (new.history ≡ old.history) × (new.pages ≡ old.pages)
 -- The item asks what is found, at a time, which is a window up to the next one, or over a window; and this is so of the window's bounds and the text.
 abbrev pub AsksOver : (ℕ → ℕ → List ℕ → Type 0) → Item → Type 0
 AsksOver P (items.Command (commands.Find at expr)) = P at.seconds (at.seconds + 1) expr
+AsksOver P (items.Command (commands.Top count at expr)) = P at.seconds (at.seconds + 1) expr
 AsksOver P (items.Command (commands.Between span expr)) = P span.from span.to expr
 AsksOver P other = ⊥
 

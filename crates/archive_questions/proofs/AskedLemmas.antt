@@ -1,5 +1,6 @@
 -- How a query ends: at a text that is none, at sublists that were not had, or with an answer; and errors that are handed on.
 use Rattle.std.proofs.Common.{◌≡◌, ℕ, ◌+◌, List, Result, Ok, Err, IfOk, OnOk, IsErrAnd, refl, ap, subst, sym, ◌∙◌}
+use Rattle.std.proofs.lemmas.Result.{IfOk-weaker}
 use Rattle.machine_model.specs.Areas.{Both}
 use Rattle.pages_area.specs.Caches.{Kept, after_asking_all, missed_by_all}
 use Rattle.machine_model.specs.States.{DiskState}
@@ -8,12 +9,15 @@ use Rattle.base_types.specs.declared.time.Span.{Span}
 use Rattle.base_commands.specs.declared.command.Command.TheVariants as commands
 use Rattle.base_commands.specs.declared.command.Item.{Item}
 use Rattle.base_commands.specs.declared.command.Item.TheVariants as items
+use Rattle.base_commands.specs.declared.count.TopCount.{TopCount}
 use Rattle.query_lang.specs.declared.error.QueryError.{QueryError}
 use Rattle.query_lang.specs.declared.error.QueryError.TheVariants as queries
 use Rattle.query_lang.specs.Grammar.{Query, IsRead}
 use Rattle.query_lang.specs.Meaning.{words_of}
 use Rattle.query_lang.specs.Tokens.{term_of}
 use Rattle.query_eval.specs.declared.answer.Answer.{Answer}
+use Rattle.query_eval.specs.declared.answer.Row.{Row}
+use Rattle.query_eval.specs.declared.answer.Wanted.TheVariants.{First}
 use Rattle.query_eval.specs.declared.spans.SpanAnswer.{SpanAnswer}
 use Rattle.pages_sublists.specs.declared.why.Damage.{Damage}
 use Rattle.pages_sublists.specs.declared.why.FetchError.{FetchError}
@@ -27,10 +31,10 @@ use Rattle.archive_entries.specs.declared.error.Declined.{Declined}
 use Rattle.archive_entries.specs.declared.error.Declined.TheVariants as declines
 use Rattle.archive_questions.specs.After.{AfterFetching, AfterQuestion, Fetches}
 use Rattle.archive_hand.specs.Asking.{HasAsked}
-use Rattle.archive_questions.specs.Answering.{IsAnswerTo, IsNoQuery}
+use Rattle.archive_questions.specs.Answering.{IsAnswerTo, IsNoQuery, IsWantedAt}
 use Rattle.archive_questions.specs.Causes.{ask_error_of_query, asked_of}
 use Rattle.archive_hand.specs.States.{ArchiveState, AreInStepBy, with_reads}
-use Rattle.archive_hand.specs.Stored.{Store, Answers, MakesAt, MakesOver, Spoils, StoreStep, asking}
+use Rattle.archive_hand.specs.Stored.{Store, Answers, MakesAt, MakesOver, MakesTop, Spoils, StoreStep, asking}
 use Rattle.archive_hand.specs.Takes.{TakesBy}
 use Rattle.archive_questions.specs.Endings.{answered, found, spanned}
 use Rattle.archive_questions.specs.declared.error.AskError.{AskError}
@@ -104,6 +108,21 @@ after_fetching {T} tells text phrase from to IsMade query r fetched d e x y same
     told_so (Ok answer) then made asked = then answer made asked
     told_so (Err error) then made asked = tt
 
+-- what is so of what an answer is made from, is so after the question
+pub after_weaker : {T : Type 0} (tells : Type 0) (phrase : List ℕ) (from to : ℕ) (IsMade IsSo : History → Query → T → Type 0) (r : Result T AskError) (d e : DiskState) (x y : ArchiveState)
+    → ((h : History) (query : Query) (answer : T) → IsMade h query answer → IsSo h query answer) → AfterQuestion tells phrase from to IsMade r d e x y → AfterQuestion tells phrase from to IsSo r d e x y
+after_weaker {T} tells phrase from to IsMade IsSo r d e x y so after = record {
+  same = after.same;
+  but_cache = after.but_cache;
+  cached = after.cached;
+  failed = after.failed;
+  refused = after.refused;
+  unasked = after.unasked;
+  asked = after.asked;
+  made = λ told h stands cached. IfOk-weaker r _ _ (λ answer made. (made.0, made.1, so h made.0 answer made.2, made.3)) (after.made told h stands cached);
+  damaged = after.damaged;
+}
+
 -- ---- a query is a step of the abstract archive, with the cache that it leaves
 
 -- ---- by what reads give
@@ -148,6 +167,14 @@ find_by s at phrase r d e x y told in_step after =
     query_by (λ pages. MakesAt (record s { pages = pages }) at) s (items.Command (commands.Find at phrase)) phrase at.seconds (at.seconds + 1)
     (λ h query answer. IsMadeAt h d.holds.pages at.seconds query answer.rows.items answer.read) (λ (answer : Answer). Found answer.rows.items answer.read) r d e x y told (λ one next is. is) (λ damage is. is)
     (λ query answer made. (answer.rows.items, answer.read, made, refl)) in_step after
+
+pub top_by : {tells : Type 0} (s : Store) (count : TopCount) (at : Time) (phrase : List ℕ) (r : Result Answer AskError) (d e : DiskState) (x y : ArchiveState) → tells → AreInStepBy d x s
+    → AfterQuestion tells phrase at.seconds (at.seconds + 1) (λ h query answer. IsWantedAt (First count.number) h d.holds.pages at.seconds query answer.rows.items answer.read) r d e x y
+    → TakesBy s (items.Command (commands.Top count at phrase)) (found r) d e y
+top_by s count at phrase r d e x y told in_step after =
+    query_by (λ pages. MakesTop (record s { pages = pages }) count at) s (items.Command (commands.Top count at phrase)) phrase at.seconds (at.seconds + 1)
+    (λ h query answer. IsWantedAt (First count.number) h d.holds.pages at.seconds query answer.rows.items answer.read) (λ (answer : Answer). Found answer.rows.items answer.read) r d e x y told (λ one next is. is) (λ damage is. is)
+    (λ query answer made. (made.0, answer.read, made.1, ap (λ (rows : List Row). Found rows answer.read) made.2)) in_step after
 
 pub between_by : {tells : Type 0} (s : Store) (span : Span) (phrase : List ℕ) (r : Result SpanAnswer AskError) (d e : DiskState) (x y : ArchiveState) → tells → AreInStepBy d x s
     → AfterQuestion tells phrase span.from span.to (λ h query answer. IsMadeOver h d.holds.pages span.from span.to query answer.rows.items answer.read) r d e x y

@@ -5,10 +5,13 @@ use Rattle.pages_area.specs.Caches.{Kept}
 use Rattle.query_lang.specs.Grammar.{Query, IsRead}
 use Rattle.query_lang.specs.Meaning.{words_of}
 use Rattle.query_lang.specs.Tokens.{term_of}
+use Rattle.query_eval.specs.Firsts.{AreWantedOf}
+use Rattle.query_eval.specs.declared.answer.Row.{Row}
+use Rattle.query_eval.specs.declared.answer.Wanted.{Wanted}
 use Rattle.model_archive.specs.declared.refusal.Refusal.{Refusal}
 use Rattle.model_archive.specs.declared.refusal.Refusal.TheVariants as refusals
 use Rattle.model_archive.specs.Histories.{History}
-use Rattle.model_archive.specs.Chosen.{pieces_for}
+use Rattle.model_archive.specs.Chosen.{IsMadeAt, pieces_for}
 use Rattle.archive_hand.specs.Asking.{HasAsked}
 
 -- the phrase is a query
@@ -28,3 +31,7 @@ HasReadFor history a b query was now old new = HasAsked (pieces_for history old.
 abbrev pub IsAnswerTo : History → ℕ → ℕ → List ℕ → (Query → Type 0) → List Kept → List Kept → DiskState → DiskState → Type 0
 IsAnswerTo history a b phrase IsMade was now old new =
     (query : Query) × IsRead term_of phrase (Ok query) × IsMade query × HasReadFor history a b query was now old new
+
+-- those rows that are asked for of an answer that is made from the lists chosen
+abbrev pub IsWantedAt : Wanted → History → List ℕ → ℕ → Query → List Row → ℕ → Type 0
+IsWantedAt wanted history pages t query rows read = AreWantedOf wanted (λ all. IsMadeAt history pages t query all read) rows

@@ -1,9 +1,10 @@
-//! What an archive is asked: the text of a document at a time, and what a query finds.
+//! What an archive is asked: the text of a document at a time, and what a query finds, or the first rows of it.
 ghost use Rattle.std.specs.Prelude.{◌≡◌, ◌+◌, ℕ, List, All, length, false, true, IsSome, IfOk, IsErrOf};
 ghost use Rattle.machine_model.specs.Causes.{Rose};
 ghost use Rattle.machine_model.specs.Calls.{OnlyReads};
 ghost use Rattle.query_lang.specs.Meaning.{words_of};
 ghost use Rattle.query_eval.specs.Answers.{IsAnswer};
+ghost use Rattle.query_eval.specs.Firsts.{AreWantedOf};
 ghost use Rattle.query_eval.specs.Found.{told, read_of};
 ghost use Rattle.model_archive.specs.Histories.{History, text_at};
 ghost use Rattle.model_archive.specs.Plans.{is_another};
@@ -12,6 +13,7 @@ ghost use Rattle.archive_questions.specs.After.{AfterFetching, AfterQuestion, Fe
 ghost use Rattle.archive_hand.specs.States.{StandsFor, AreInStepBy, Reaches};
 ghost use Rattle.archive_hand.specs.Stored.{Store};
 ghost use Rattle.archive_hand.specs.Takes.{TakesBy};
+ghost use Rattle.archive_questions.specs.Answering.{IsWantedAt};
 ghost use Rattle.archive_questions.specs.Endings.{found, version_shown};
 ghost use Rattle.base_commands.specs.declared.command.Command.TheVariants as commands;
 ghost use Rattle.base_commands.specs.declared.command.Item.TheVariants as items;
@@ -20,11 +22,11 @@ use crate::choosing::parts_of;
 use crate::error::{AskError, asked};
 use archive_entries::{ReadError, read_text};
 use archive_hand::Archive;
-use base_commands::Phrase;
+use base_commands::{Phrase, TopCount};
 use base_types::{DocId, Key, Span, Time};
 use machine_model::Disk;
 use pages_sublists::FetchError;
-use query_eval::{Answer, Part, answer_by_hits, answer_by_living_hits, answer_from};
+use query_eval::{Answer, Part, Wanted, answer_by_hits, answer_by_living_hits, answer_from};
 use query_lang::Query;
 use std::alloc::{AllocError, Global};
 
@@ -54,8 +56,50 @@ pub fn find<D: Disk>(
     ensures by_reads { D.disk_tells → (s : Store) → AreInStepBy (D.disk disk.old) archive.old s →
         TakesBy s (items.Command (commands.Find at expr.now)) (found result) (D.disk disk.old) (D.disk disk.new) archive.new }
 {
+    ask(alloc, disk, archive, at, expr, Wanted::All)
+}
+
+/// The first rows of what a query finds as of a time, and how many postings were read, which are those
+/// for all rows. Nothing is changed but which pages are kept.
+///
+/// It ends as `find` does, and costs what `find` does, but that the rows are not all sorted: one pass
+/// keeps at most twice as many as are asked for, or 1,024, and sorts these each time that there are so
+/// many.
+pub fn top<D: Disk>(
+    alloc: Global,
+    disk: &mut D,
+    archive: &mut Archive,
+    count: TopCount,
+    at: Time,
+    expr: &Phrase,
+) -> Result<Answer, AskError>
+    requires within { Reaches (D.disk disk.old).reach archive.old }
+    ensures only { D.Disk.only disk.old disk.new }
+    ensures after { AfterQuestion D.disk_tells expr.now at.seconds (at.seconds + 1) (λ h query answer. IsWantedAt (Wanted.First count.number) h (D.disk disk.old).holds.pages at.seconds query answer.rows.items answer.read)
+        result (D.disk disk.old) (D.disk disk.new) archive.old archive.new }
+    // In step by what reads give, whatever lies in Pages, it is a step.
+    ensures by_reads { D.disk_tells → (s : Store) → AreInStepBy (D.disk disk.old) archive.old s →
+        TakesBy s (items.Command (commands.Top count at expr.now)) (found result) (D.disk disk.old) (D.disk disk.new) archive.new }
+{
+    ask(alloc, disk, archive, at, expr, Wanted::First(count.number() as usize))
+}
+
+/// The rows that are asked for of what a query finds.
+fn ask<D: Disk>(
+    alloc: Global,
+    disk: &mut D,
+    archive: &mut Archive,
+    at: Time,
+    expr: &Phrase,
+    wanted: Wanted,
+) -> Result<Answer, AskError>
+    requires within { Reaches (D.disk disk.old).reach archive.old }
+    ensures only { D.Disk.only disk.old disk.new }
+    ensures after { AfterQuestion D.disk_tells expr.now at.seconds (at.seconds + 1) (λ h query answer. IsWantedAt wanted h (D.disk disk.old).holds.pages at.seconds query answer.rows.items answer.read)
+        result (D.disk disk.old) (D.disk disk.new) archive.old archive.new }
+{
     match Query::read(alloc, expr.as_str()) {
-        Ok(query) => asked(answer_of(alloc, disk, archive, &query, at)),
+        Ok(query) => asked(answer_of(alloc, disk, archive, &query, at, wanted)),
         Err(why) => Err(AskError::from(why)),
     }
 }
@@ -67,15 +111,16 @@ fn answer_of<D: Disk>(
     archive: &mut Archive,
     query: &Query,
     at: Time,
+    wanted: Wanted,
 ) -> Result<Answer, FetchError>
     requires within { Reaches (D.disk disk.old).reach archive.old }
     ensures only { D.Disk.only disk.old disk.new }
     ensures after { AfterFetching D.disk_tells result (D.disk disk.old) (D.disk disk.new) archive.old archive.new }
-    ensures fetched { Fetches D.disk_tells at.seconds (at.seconds + 1) (words_of query.now) (λ h answer. IsMadeAt h (D.disk disk.old).holds.pages at.seconds query.now answer.rows.items answer.read)
+    ensures fetched { Fetches D.disk_tells at.seconds (at.seconds + 1) (words_of query.now) (λ h answer. IsWantedAt wanted h (D.disk disk.old).holds.pages at.seconds query.now answer.rows.items answer.read)
         result (D.disk disk.old) (D.disk disk.new) archive.old archive.new }
 {
     let parts = parts_of(alloc, disk, archive, query.words(), moment(at))?;
-    let answer = answer_by(alloc, archive, query, at, &parts)?;
+    let answer = answer_by(alloc, archive, query, at, &parts, wanted)?;
     Ok(answer)
 }
 
@@ -86,25 +131,26 @@ fn answer_by(
     query: &Query,
     at: Time,
     parts: &[Part],
+    wanted: Wanted,
 ) -> Result<Answer, AllocError>
     requires { length parts.now ≡ length (words_of query.now) }
     ensures read { IfOk result (λ answer. answer.read ≡ read_of parts.now) }
-    ensures rows { (h : History) (pages : List ℕ) → StandsFor archive.now h → AreChosen h pages at.seconds (at.seconds + 1) (words_of query.now) parts.now → IfOk result (λ answer. IsAnswer (λ doc. IsSome (text_at h doc at.seconds))
-        (λ doc. told (words_of query.now) parts.now at.seconds doc.0) query.now answer.rows.items) }
+    ensures rows { (h : History) (pages : List ℕ) → StandsFor archive.now h → AreChosen h pages at.seconds (at.seconds + 1) (words_of query.now) parts.now → IfOk result (λ answer. AreWantedOf wanted (λ rows. IsAnswer (λ doc. IsSome (text_at h doc at.seconds))
+        (λ doc. told (words_of query.now) parts.now at.seconds doc.0) query.now rows) answer.rows.items) }
 {
     if query.matches_without_words() {
         let alive = archive.directory().alive(alloc, at)?;
-        let answer = answer_from(alloc, query, at, parts, &alive)?;
+        let answer = answer_from(alloc, query, at, parts, &alive, wanted)?;
         return Ok(answer);
     }
     if is_any_planned(archive, query.words()) {
         // All documents with a hit are alive, but for bytes of Pages that no archive wrote.
         let directory = archive.directory();
         let is_alive = |doc| directory.alive_at(doc, at);
-        let answer = answer_by_living_hits(alloc, query, at, parts, is_alive)?;
+        let answer = answer_by_living_hits(alloc, query, at, parts, is_alive, wanted)?;
         return Ok(answer);
     }
-    let answer = answer_by_hits(alloc, query, at, parts)?;
+    let answer = answer_by_hits(alloc, query, at, parts, wanted)?;
     Ok(answer)
 }
 

@@ -1,5 +1,5 @@
 -- Each item has one outcome: from a legal history to a legal one.
-use Rattle.std.proofs.Common.{subst, sym, ◌≡◌, ℕ, ◌+◌, ◌<◌, ◌≤◌, ◌^◌, not, nat_lt, List, [], ◌∷◌, ◌++◌, length, map, All, Contains, Option, Some, None, IsSome, is_some, Result, Ok, Err, refl, ap, arith, unwrap_or, ◌∙◌, inl, inr}
+use Rattle.std.proofs.Common.{subst, sym, ◌≡◌, ℕ, ◌+◌, ◌<◌, ◌≤◌, ◌^◌, not, nat_lt, List, [], ◌∷◌, ◌++◌, length, map, take, All, Contains, Option, Some, None, IsSome, is_some, Result, Ok, Err, refl, ap, arith, unwrap_or, ◌∙◌, inl, inr}
 use Rattle.std.specs.Str.{is_utf8}
 use Rattle.std.specs.Option.{option_map}
 use Rattle.std.proofs.lemmas.Bool.{cases_lt, ltb-false}
@@ -57,8 +57,9 @@ use Rattle.base_commands.specs.declared.command.Item.{Item}
 use Rattle.base_commands.specs.declared.command.Item.TheVariants as items
 use Rattle.base_commands.specs.declared.command.Kind.{Kind}
 use Rattle.base_commands.specs.declared.command.Kind.TheVariants.{Guarantee}
+use Rattle.base_commands.specs.declared.count.TopCount.{TopCount}
 use Rattle.base_commands.specs.declared.text.Text.TheVariants as texts
-use Rattle.model_archive.specs.Steps.{Reply, Accepted, Refused, Found, Spanned, Version, Proposed, Planned, Verified, Summary, Adds, Declines, IsRepliedBy, IsReplied, Finds, FindsBy, Spans, SpansBy, Proposes, ProposesPlan, Plans, StoresPlan, spelled_key, CarriesOut, Step, too_long, bad_text, full_journal, arrival_refusal, deletion_refusal, mark_refusal}
+use Rattle.model_archive.specs.Steps.{Reply, Accepted, Refused, Found, Spanned, Version, Proposed, Planned, Verified, Summary, Adds, Declines, IsRepliedBy, IsReplied, Finds, FindsBy, Tops, TopsBy, Spans, SpansBy, Proposes, ProposesPlan, Plans, StoresPlan, spelled_key, CarriesOut, Step, too_long, bad_text, full_journal, arrival_refusal, deletion_refusal, mark_refusal}
 use Rattle.model_archive.specs.Runs.{Outcome, IsRun}
 use Rattle.model_archive.specs.Worlds.{World, world_of}
 use Rattle.model_archive.proofs.HistoryLemmas.{legal-push, loadable-push, entry_loads}
@@ -201,6 +202,15 @@ each_found h at loads query =
 pub each_finds : (h : History) (at : Time) (text : List ℕ) → IsLoadable h → (reply : Reply) × Finds h at text reply
 each_finds h at text loads = each_text (FindsBy h at) (each_found h at loads) text
 
+-- the first rows come of all
+each_topped : (h : History) (count : TopCount) (at : Time) → IsLoadable h → (query : Query) → (reply : Reply) × TopsBy h count at query reply
+each_topped h count at loads query =
+    let (reply, (rows, read, answer, is_read, is)) = each_found h at loads query in
+    (Found (take count.number rows) read, (rows, read, answer, is_read, refl))
+
+each_tops : (h : History) (count : TopCount) (at : Time) (text : List ℕ) → IsLoadable h → (reply : Reply) × Tops h count at text reply
+each_tops h count at text loads = each_text (TopsBy h count at) (each_topped h count at loads) text
+
 each_spanned : (h : History) (span : Span) → IsLoadable h → (query : Query) → (reply : Reply) × SpansBy h span query reply
 each_spanned h span loads query =
     let given = each-window (λ doc t. is_some (text_at h doc t)) (λ doc t word. frequency_at h word doc t) query (2 ^ 32) span.from span.to span.in_time
@@ -242,6 +252,8 @@ each_command h (commands.Batch batch) loads = each_batch h batch
 each_command h (commands.Find at expr) loads =
     let found = each_finds h at expr loads in
     (record { reply = found.0; next = h }, (refl, found.1))
+each_command h (commands.Top count at expr) loads =
+    let tops = each_tops h count at expr loads in (record { reply = tops.0; next = h }, (refl, tops.1))
 each_command h (commands.Show doc at) loads = (record { reply = Version (text_at h doc at.seconds); next = h }, (refl, refl))
 each_command h (commands.Plan word kind fraction) loads = each_plans h word kind fraction loads
 each_command h (commands.Propose word fraction) loads =
@@ -283,6 +295,7 @@ command_keeps P push h (commands.Delete doc at) reply next is range step = adds_
 command_keeps P push h commands.Format reply next is range step = adds_keep P push h entries.Format (mark_refusal h) reply next is (mark_legal h) step
 command_keeps P push h (commands.Batch batch) reply next is range step = batches_keep P push h batch reply next is range step
 command_keeps P push h (commands.Find at expr) reply next is range step = stays P h next is step.0
+command_keeps P push h (commands.Top count at expr) reply next is range step = stays P h next is step.0
 command_keeps P push h (commands.Show doc at) reply next is range step = stays P h next is step.0
 command_keeps P push h (commands.Plan word kind fraction) reply next is range step = plans_keep P push h word kind fraction reply next is step
 command_keeps P push h (commands.Propose word fraction) reply next is range step = stays P h next is step.0
@@ -366,6 +379,15 @@ one_found h at query reply other a b =
 one_finds : (h : History) (at : Time) (text : List ℕ) (reply other : Reply) → Finds h at text reply → Finds h at text other → reply ≡ other
 one_finds h at text = one_text (FindsBy h at) (one_found h at) text
 
+one_topped : (h : History) (count : TopCount) (at : Time) → IsOnly (TopsBy h count at)
+one_topped h count at query reply other a b =
+    let rows = one_answer (λ doc. IsSome (text_at h doc at.seconds)) (λ doc word. frequency_at h word doc at.seconds) query a.0 b.0 a.2 b.2 in
+    let read = one_read h at.seconds (at.seconds + 1) (words_of query) a.1 b.1 a.3 b.3 in
+    a.4 ∙ ap (λ (r : List Row). Found (take count.number r) a.1) rows ∙ ap (λ (n : ℕ). Found (take count.number b.0) n) read ∙ sym b.4
+
+one_tops : (h : History) (count : TopCount) (at : Time) (text : List ℕ) (reply other : Reply) → Tops h count at text reply → Tops h count at text other → reply ≡ other
+one_tops h count at text = one_text (TopsBy h count at) (one_topped h count at) text
+
 one_spanned : (h : History) (span : Span) → IsOnly (SpansBy h span)
 one_spanned h span query reply other a b =
     let rows = longest.one row_kind plain-rows (scored_at (λ doc t. is_some (text_at h doc t)) (λ doc t word. frequency_at h word doc t) query) span.from span.to a.0 b.0 a.2 b.2 in
@@ -400,6 +422,7 @@ one_command h (commands.Delete doc at) reply other next then free a b = one_adds
 one_command h commands.Format reply other next then free a b = one_adds h entries.Format (mark_refusal h) reply other next then a b
 one_command h (commands.Batch batch) reply other next then free a b = one_batch h batch reply other next then a b
 one_command h (commands.Find at expr) reply other next then free a b = one_stays h reply other next then a.0 b.0 (one_finds h at expr reply other a.1 b.1)
+one_command h (commands.Top count at expr) reply other next then free a b = one_stays h reply other next then a.0 b.0 (one_tops h count at expr reply other a.1 b.1)
 one_command h (commands.Show doc at) reply other next then free a b = one_stays h reply other next then a.0 b.0 (a.1 ∙ sym b.1)
 one_command h (commands.Plan word kind fraction) reply other next then free a b = absurd (free tt)
 one_command h (commands.Propose word fraction) reply other next then free a b = absurd (free tt)

@@ -1,5 +1,5 @@
 -- The machine that an archive is: what an item of the input does to a history, and what is replied.
-use Rattle.std.specs.Prelude.{◌≡◌, ◌⊎◌, ℕ, ◌+◌, nat_lt, not, if◌then◌else◌, List, [], ◌∷◌, ◌++◌, length, Option, Some, None, unwrap_or, Result, Ok, Err}
+use Rattle.std.specs.Prelude.{◌≡◌, ◌⊎◌, ℕ, ◌+◌, nat_lt, not, if◌then◌else◌, List, [], ◌∷◌, ◌++◌, length, take, Option, Some, None, unwrap_or, Result, Ok, Err}
 use Rattle.std.specs.List.{AllZip, flat_map}
 use Rattle.std.specs.Option.{option_map}
 use Rattle.std.specs.Str.{is_utf8}
@@ -22,6 +22,7 @@ use Rattle.base_commands.specs.declared.command.Item.{Item}
 use Rattle.base_commands.specs.declared.command.Item.TheVariants as items
 use Rattle.base_commands.specs.declared.command.Kind.{Kind}
 use Rattle.base_commands.specs.declared.command.Kind.TheVariants.{Guarantee}
+use Rattle.base_commands.specs.declared.count.TopCount.{TopCount}
 use Rattle.base_commands.specs.declared.text.Text.{Text}
 use Rattle.base_commands.specs.declared.text.Text.TheVariants as texts
 use Rattle.lists_versions.specs.Tests.{first_of, when}
@@ -137,6 +138,16 @@ FindsBy history at query reply =
 -- the same by a text
 abbrev pub Finds : History → Time → List ℕ → Reply → Type 0
 Finds history at text reply = IsReplied (FindsBy history at) text reply
+
+-- the first rows of what is found at a time by a query, and the postings read, which are those for all of them
+abbrev pub TopsBy : History → TopCount → Time → Query → Reply → Type 0
+TopsBy history count at query reply =
+    (rows : List Row) × (read : ℕ) × IsAnswerAt history at.seconds query rows × IsReadFor history at.seconds (at.seconds + 1) (words_of query) read
+    × (reply ≡ Found (take count.number rows) read)
+
+-- the same by a text
+abbrev pub Tops : History → TopCount → Time → List ℕ → Reply → Type 0
+Tops history count at text reply = IsReplied (TopsBy history count at) text reply
 
 -- what is found over a window of time by a query, in rows and postings read
 abbrev pub SpansBy : History → Span → Query → Reply → Type 0
@@ -308,6 +319,7 @@ CarriesOut old (commands.Delete doc at) reply new = Adds old (entries.Delete doc
 CarriesOut old commands.Format reply new = Adds old entries.Format (mark_refusal old) reply new
 CarriesOut old (commands.Batch batch) reply new = Batches old batch reply new
 CarriesOut old (commands.Find at expr) reply new = (new ≡ old) × Finds old at expr reply
+CarriesOut old (commands.Top count at expr) reply new = (new ≡ old) × Tops old count at expr reply
 CarriesOut old (commands.Show doc at) reply new = (new ≡ old) × (reply ≡ Version (text_at old doc at.seconds))
 CarriesOut old (commands.Plan word kind fraction) reply new = Plans old word kind fraction reply new
 CarriesOut old (commands.Propose word fraction) reply new = (new ≡ old) × Proposes old word fraction reply

@@ -19,6 +19,7 @@ use Rattle.query_lang.specs.Grammar.{Query}
 use Rattle.query_lang.specs.Meaning.{matches, words_of, weight, score}
 use Rattle.query_lang.proofs.Deciding.{agreeing, matches-same, score-same}
 use Rattle.query_eval.specs.Answers.{RanksBefore, AreRanked, IsRow, IsAnswer}
+use Rattle.query_eval.specs.Firsts.{AreInOrder}
 use Rattle.query_eval.specs.Found.{told, row_of, same_row, once, AreSorted}
 use Rattle.query_eval.specs.Hits.{hit_of, hits_in, gathered, is_of, hits_of, found}
 use Rattle.query_eval.specs.declared.answer.Row.{Row}
@@ -243,29 +244,35 @@ made-rows alive often query row = (
       made-in (λ doc. row_of query (often doc) doc) row row.doc alive r.alive e,
 )
 
--- in some order they are the answer
-pub each-answer : (alive : List DocId) (often : DocId → List ℕ → ℕ) (query : Query) → (rows : List Row) × IsAnswer (λ doc. Contains alive doc) often query rows
-each-answer alive often query =
-    let (rows, o) = in_order (filter_map (λ doc. row_of query (often doc) doc) alive) in
-    (rows, record { ranked = o.ranked; each = λ row. (λ c. (made-rows alive often query row).0 ((o.each row).0 c), λ r. (o.each row).1 ((made-rows alive often query row).1 r)) })
-
--- what a sort by score, downwards, and then by document makes of the rows is the answer, without repeats
-pub answer-is : (alive : List DocId) (often : DocId → List ℕ → ℕ) (query : Query) (made sorted rows : List Row) → made ≡ filter_map (λ doc. row_of query (often doc) doc) alive → IsPermutation made sorted
-    → AreSorted sorted → rows ≡ once sorted → IsAnswer (λ doc. Contains alive doc) often query rows
-answer-is alive often query made sorted rows m p s o = record {
+-- a sort by score, downwards, and then by document puts rows into their order, without repeats
+pub sorted-are : (made sorted rows : List Row) → IsPermutation made sorted → AreSorted sorted → rows ≡ once sorted → AreInOrder rows made
+sorted-are made sorted rows p s o = record {
   ranked = subst AreRanked (sym o) (ranked-once sorted (λ k d i b. backwards (get_or sorted k d) (get_or sorted (suc k) d) (rw add-one at (s k d (omega arith) (omega (arith, i)))) b));
   each = λ row. (
-    λ c.
-        let made_row = subst (λ l. Contains l row) m (Contains-permutation sorted made row (IsPermutation-sym _ _ p) (once-from row sorted (subst (λ l. Contains l row) o c))) in
-        (made-rows alive often query row).0 made_row,
-    λ r.
-        let made_row = (made-rows alive often query row).1 r in
-        subst (λ l. Contains l row) (sym o) (once-in row sorted (Contains-permutation made sorted row p (subst (λ l. Contains l row) (sym m) made_row))),
+    λ c. Contains-permutation sorted made row (IsPermutation-sym _ _ p) (once-from row sorted (subst (λ l. Contains l row) o c)),
+    λ c. subst (λ l. Contains l row) (sym o) (once-in row sorted (Contains-permutation made sorted row p c)),
   );
 }
   where
     backwards : (a b : Row) → is_lt (ordering_then (nat_cmp a.score b.score) (nat_cmp b.doc.0 a.doc.0)) ≡ false → RanksBefore b a → ⊥
     backwards a b n r = grind (arith, nat_tests)
+
+-- the rows made of documents are in their order the answer
+pub answer-is : (alive : List DocId) (often : DocId → List ℕ → ℕ) (query : Query) (made rows : List Row) → made ≡ filter_map (λ doc. row_of query (often doc) doc) alive → AreInOrder rows made
+    → IsAnswer (λ doc. Contains alive doc) often query rows
+answer-is alive often query made rows m o = record {
+  ranked = o.ranked;
+  each = λ row. (
+    λ c. (made-rows alive often query row).0 (subst (λ l. Contains l row) m ((o.each row).0 c)),
+    λ r. (o.each row).1 (subst (λ l. Contains l row) (sym m) ((made-rows alive often query row).1 r)),
+  );
+}
+
+-- in some order they are the answer
+pub each-answer : (alive : List DocId) (often : DocId → List ℕ → ℕ) (query : Query) → (rows : List Row) × IsAnswer (λ doc. Contains alive doc) often query rows
+each-answer alive often query =
+    let (rows, o) = in_order (filter_map (λ doc. row_of query (often doc) doc) alive) in
+    (rows, answer-is alive often query (filter_map (λ doc. row_of query (often doc) doc) alive) rows refl o)
 
 -- one document more
 pub made-more : (f : DocId → Option Row) (docs : List DocId) (i : ℕ) (doc : DocId) (rows new : List Row) (row : Option Row) → i < length docs → doc ≡ get_or docs i doc → rows ≡ filter_map f (take i docs) → row ≡ f doc

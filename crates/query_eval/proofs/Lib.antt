@@ -1,3 +1,4 @@
+pub mod FirstLemmas
 pub mod FoundLemmas
 pub mod GivenLemmas
 mod HitLemmas

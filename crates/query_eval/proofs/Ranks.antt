@@ -5,12 +5,13 @@ use Rattle.std.proofs.lemmas.Bool.{cases_lt}
 use Rattle.lists_postings.proofs.Elements.{here, later, here-or-later, one_order as one_list}
 use Rattle.lists_postings.proofs.Order.{Heads, next-tail, next-cons, next-later}
 use Rattle.query_eval.specs.Answers.{RanksBefore, AreRanked}
+use Rattle.query_eval.specs.Firsts.{AreInOrder}
 use Rattle.query_eval.specs.declared.answer.Row.{Row}
 
-ranks-trans : (a b c : Row) → RanksBefore a b → RanksBefore b c → RanksBefore a c
+pub ranks-trans : (a b c : Row) → RanksBefore a b → RanksBefore b c → RanksBefore a c
 ranks-trans a b c x y = grind arith
 
-never-both : (a b : Row) → RanksBefore a b → RanksBefore b a → ⊥
+pub never-both : (a b : Row) → RanksBefore a b → RanksBefore b a → ⊥
 never-both a b x y = grind arith
 
 -- a document and a score make a row
@@ -36,11 +37,6 @@ in-order a b = elim (cases_lt b.score a.score) [
 heads : (x : Row) (xs : List Row) → ((y : Row) → Contains xs y → RanksBefore x y) → Heads RanksBefore x xs
 heads x [] h = tt
 heads x (y ∷ ys) h = h y (here y ys)
-
--- rows in their order that are these ones
-pub record AreInOrder (rows xs : List Row) : Type 0 where
-  pub ranked : AreRanked rows
-  pub each : (row : Row) → (Contains rows row ↔ Contains xs row)
 
 placed : (x : Row) (xs : List Row) → AreRanked xs → (rows : List Row) × AreInOrder rows (x ∷ xs)
 placed x [] h = (x ∷ [], record { ranked = tt; each = λ row. (λ c. c, λ c. c) })

@@ -1,5 +1,6 @@
 pub mod Answers
 pub mod Facts
+pub mod Firsts
 pub mod Found
 pub mod Hits
 pub mod Laws

@@ -18,3 +18,12 @@ pub struct Answer {
     /// How many postings were read for them.
     pub read: u64,
 }
+
+/// How many of the rows that a query finds are asked for.
+#[derive(Clone, Copy, Debug, PartialEq, Eq)]
+pub enum Wanted {
+    /// All of them.
+    All,
+    /// The first so many in their order.
+    First(usize),
+}

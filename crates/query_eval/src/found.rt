@@ -1,21 +1,21 @@
 //! Answers to queries over any lists.
-ghost use Rattle.std.specs.Prelude.{option_to_list, ◌++◌, OnOk, ◌≡◌, ◌<◌, ◌≤◌, ◌+◌, ◌∷◌, if◌then◌else◌, true, drop, filter, ℕ, Bool, List, [], Ok, length, map, Contains, IfOk};
+ghost use Rattle.std.specs.Prelude.{option_to_list, ◌++◌, OnOk, ◌≡◌, ◌<◌, ◌≤◌, true, filter, ℕ, Bool, List, [], Ok, length, map, Contains, IfOk};
 ghost use Rattle.std.specs.List.{filter_map, slice_index_or};
-ghost use Rattle.std.specs.List.Sorted.{IsNonDecreasingBy, IsPermutation};
+ghost use Rattle.std.specs.List.Sorted.{IsNonDecreasingBy};
 ghost use Rattle.query_lang.specs.Meaning.{words_of};
 ghost use Rattle.query_eval.specs.Answers.{IsAnswer};
-ghost use Rattle.query_eval.specs.Found.{told, HasHit, read_of, AnswersAs, row_of, once, AreSorted};
+ghost use Rattle.query_eval.specs.Firsts.{AreInOrder, AreWantedOf};
+ghost use Rattle.query_eval.specs.Found.{told, HasHit, read_of, AnswersAs, row_of};
 ghost use Rattle.query_eval.specs.Hits.{found, Tell, AreMade};
-ghost use Rattle.query_eval.specs.declared.answer.Row.{Row as RowValue};
 ghost use Rattle.base_types.specs.declared.ids.DocId.{DocId as DocValue};
 
-use crate::answer::{Answer, Row};
+use crate::answer::{Answer, Row, Wanted};
 use crate::hit::{Hit, count_words, end_of, group_of, hits_at};
 use crate::part::Part;
+use crate::ranking::{put, wanted_of};
 use base_types::{DocId, Time};
 use query_lang::{Pile, Query};
 use std::alloc::{AllocError, Global};
-use std::cmp::Reverse;
 
 /// The row of a document by its hits, where it matches. Costs the query's length, or nothing where
 /// there is no hit.
@@ -47,18 +47,6 @@ pub(crate) fn row_by(
     Ok(None)
 }
 
-/// Whether the row at a place is the next one too.
-fn is_repeated(rows: &[Row], i: usize) -> bool
-    requires { i < length rows.now }
-    ensures { (d : RowValue) → once (drop i rows.now) ≡ (if result then once (drop (i + 1) rows.now)
-        else slice_index_or rows.now i d ∷ once (drop (i + 1) rows.now)) }
-{
-    if i + 1 == rows.len() {
-        return false;
-    }
-    rows[i] == rows[i + 1]
-}
-
 /// The row of a document among hits that stand by document, where it matches.
 fn row_among(
     query: &Query,
@@ -73,27 +61,6 @@ fn row_among(
         → row ≡ row_of query.now (often doc) doc) }
 {
     row_by(query, doc, group_of(hits, doc), counts, truths)
-}
-
-/// The row at a place, if the next one isn't it too.
-fn kept(rows: &[Row], i: usize) -> Option<Row>
-    requires { i < length rows.now }
-    ensures { once (drop i rows.now) ≡ option_to_list result ++ once (drop (i + 1) rows.now) }
-{
-    if is_repeated(rows, i) {
-        None
-    } else {
-        Some(rows[i])
-    }
-}
-
-fn put(rows: &mut Vec<Row>, row: Option<Row>) -> Result<(), AllocError>
-    ensures { OnOk result (rows.new.items ≡ rows.old.items ++ option_to_list row) }
-{
-    if let Some(row) = row {
-        rows.push(row)?;
-    }
-    Ok(())
 }
 
 /// Puts a row behind others, if there is one and its document is alive.
@@ -112,17 +79,6 @@ fn put_living<F: Fn(DocId) -> bool>(
         }
     }
     Ok(())
-}
-
-/// Rows without those that the next one repeats.
-fn once(alloc: Global, rows: &[Row]) -> Result<Vec<Row>, AllocError>
-    ensures { IfOk result (λ v. v.items ≡ once rows.now) }
-{
-    let mut all = Vec::new(alloc);
-    for i in 0..rows.len() {
-        put(&mut all, kept(rows, i))?;
-    }
-    Ok(all)
 }
 
 /// The rows of documents, in the order of these; `counts` is room for the words' frequencies.
@@ -193,15 +149,18 @@ pub(crate) fn read_of(parts: &[Part]) -> u64
     read
 }
 
-/// Rows in their order, each once, with how many postings were read.
-fn answer_of(alloc: Global, rows: Vec<Row>, parts: &[Part]) -> Result<Answer, AllocError>
+/// The rows that are asked for, with how many postings were read.
+fn answer_of(
+    alloc: Global,
+    rows: Vec<Row>,
+    parts: &[Part],
+    wanted: Wanted,
+) -> Result<Answer, AllocError>
     requires { length parts.now ≤ 4096 }
-    ensures rows { IfOk result (λ a. (sorted : List RowValue) × IsPermutation rows.items sorted × AreSorted sorted × (a.rows.items ≡ once sorted)) }
+    ensures rows { IfOk result (λ a. AreWantedOf wanted (λ all. AreInOrder all rows.items) a.rows.items) }
     ensures read { IfOk result (λ a. a.read ≡ read_of parts.now) }
 {
-    let mut rows = rows;
-    rows.sort_unstable_by_key(|row| (Reverse(row.score), row.doc));
-    let rows = once(alloc, &rows)?;
+    let rows = wanted_of(alloc, rows, wanted)?;
     Ok(Answer {
         rows,
         read: read_of(parts),
@@ -215,16 +174,17 @@ fn answer_among(
     parts: &[Part],
     hits: &[Hit],
     alive: &[DocId],
+    wanted: Wanted,
 ) -> Result<Answer, AllocError>
     requires many { length parts.now ≡ length (words_of query.now) }
     requires sorted { IsNonDecreasingBy (λ h. h.doc.0) hits.now }
     ensures rows { IfOk result (λ a. (often : DocValue → List ℕ → ℕ) → Tell hits.now (words_of query.now) often
-        → IsAnswer (λ doc. Contains alive.now doc) often query.now a.rows.items) }
+        → AreWantedOf wanted (λ rows. IsAnswer (λ doc. Contains alive.now doc) often query.now rows) a.rows.items) }
     ensures read { IfOk result (λ a. a.read ≡ read_of parts.now) }
 {
     let mut counts = vec![in alloc; 0; query.words().len()]?;
     let rows = rows_of(alloc, query, hits, alive, &mut counts)?;
-    let answer = answer_of(alloc, rows, parts)?;
+    let answer = answer_of(alloc, rows, parts, wanted)?;
     Ok(answer)
 }
 
@@ -235,58 +195,63 @@ fn answer_over<F: Fn(DocId) -> bool>(
     parts: &[Part],
     hits: &[Hit],
     is_alive: F,
+    wanted: Wanted,
 ) -> Result<Answer, AllocError>
     requires callable { F.IsAlwaysCallable is_alive }
     requires many { length parts.now ≡ length (words_of query.now) }
     requires sorted { IsNonDecreasingBy (λ h. h.doc.0) hits.now }
     ensures rows { IfOk result (λ a. (alive : DocValue → Bool) → AnswersAs (F.post is_alive) alive
         → (often : DocValue → List ℕ → ℕ) → Tell hits.now (words_of query.now) often
-        → IsAnswer (λ doc. Contains (map (λ h. h.doc) hits.now) doc × (alive doc ≡ true)) often query.now a.rows.items) }
+        → AreWantedOf wanted (λ rows. IsAnswer (λ doc. Contains (map (λ h. h.doc) hits.now) doc × (alive doc ≡ true)) often query.now rows) a.rows.items) }
     ensures read { IfOk result (λ a. a.read ≡ read_of parts.now) }
 {
     let mut counts = vec![in alloc; 0; query.words().len()]?;
     let rows = rows_by_hits(alloc, query, hits, &mut counts, is_alive)?;
-    let answer = answer_of(alloc, rows, parts)?;
+    let answer = answer_of(alloc, rows, parts, wanted)?;
     Ok(answer)
 }
 
 /// What the query finds at a time among these documents, by the parts of the lists of its words, one
 /// for each distinct word in order. A document has a word as often as the first posting of its part
-/// says that holds the time. Costs the parts, a sort of their postings, and for each document two
-/// searches, and, where it has a hit, the query's length.
+/// says that holds the time. Costs the parts, a sort of their postings, for each document two searches,
+/// and, where it has a hit, the query's length; and of the rows a sort, or, where the first few are asked
+/// for, a pass that keeps at most twice as many and sorts these each time that they are so many.
 pub fn answer_from(
     alloc: Global,
     query: &Query,
     t: Time,
     parts: &[Part],
     alive: &[DocId],
+    wanted: Wanted,
 ) -> Result<Answer, AllocError>
     requires { length parts.now ≡ length (words_of query.now) }
-    ensures rows { IfOk result (λ a. IsAnswer (λ doc. Contains alive.now doc)
-        (λ doc. told (words_of query.now) parts.now t.seconds doc.0) query.now a.rows.items) }
+    ensures rows { IfOk result (λ a. AreWantedOf wanted (λ rows. IsAnswer (λ doc. Contains alive.now doc)
+        (λ doc. told (words_of query.now) parts.now t.seconds doc.0) query.now rows) a.rows.items) }
     ensures read { IfOk result (λ a. a.read ≡ read_of parts.now) }
 {
     let hits = hits_at(alloc, parts, t)?;
-    let answer = answer_among(alloc, query, parts, &hits, alive)?;
+    let answer = answer_among(alloc, query, parts, &hits, alive, wanted)?;
     Ok(answer)
 }
 
 /// What the query finds at a time among the documents that have one of its words then, by the parts
 /// of the lists of its words as in `answer_from`. Where `Query::matches_without_words` is false and
 /// whatever has a word is alive, no document is missed (`only_hits_matter`). Costs the parts, a sort of
-/// their postings and one of the rows, and for each document that has a hit the query's length.
+/// their postings, for each document that has a hit the query's length, and of the rows what `answer_from`
+/// does.
 pub fn answer_by_hits(
     alloc: Global,
     query: &Query,
     t: Time,
     parts: &[Part],
+    wanted: Wanted,
 ) -> Result<Answer, AllocError>
     requires { length parts.now ≡ length (words_of query.now) }
-    ensures rows { IfOk result (λ a. IsAnswer (HasHit (words_of query.now) parts.now t.seconds)
-        (λ doc. told (words_of query.now) parts.now t.seconds doc.0) query.now a.rows.items) }
+    ensures rows { IfOk result (λ a. AreWantedOf wanted (λ rows. IsAnswer (HasHit (words_of query.now) parts.now t.seconds)
+        (λ doc. told (words_of query.now) parts.now t.seconds doc.0) query.now rows) a.rows.items) }
     ensures read { IfOk result (λ a. a.read ≡ read_of parts.now) }
 {
-    answer_by_living_hits(alloc, query, t, parts, |_| true)
+    answer_by_living_hits(alloc, query, t, parts, |_| true, wanted)
 }
 
 /// What `answer_by_hits` finds of the documents that are alive by this test. Costs what `answer_by_hits`
@@ -297,16 +262,17 @@ pub fn answer_by_living_hits<F: Fn(DocId) -> bool>(
     t: Time,
     parts: &[Part],
     is_alive: F,
+    wanted: Wanted,
 ) -> Result<Answer, AllocError>
     requires callable { F.IsAlwaysCallable is_alive }
     requires many { length parts.now ≡ length (words_of query.now) }
     ensures rows { IfOk result (λ a. (alive : DocValue → Bool) → AnswersAs (F.post is_alive) alive
-        → IsAnswer (λ doc. HasHit (words_of query.now) parts.now t.seconds doc × (alive doc ≡ true))
-        (λ doc. told (words_of query.now) parts.now t.seconds doc.0) query.now a.rows.items) }
+        → AreWantedOf wanted (λ rows. IsAnswer (λ doc. HasHit (words_of query.now) parts.now t.seconds doc × (alive doc ≡ true))
+        (λ doc. told (words_of query.now) parts.now t.seconds doc.0) query.now rows) a.rows.items) }
     ensures read { IfOk result (λ a. a.read ≡ read_of parts.now) }
 {
     let all = hits_at(alloc, parts, t)?;
     let hits = all.as_slice();
-    let answer = answer_over(alloc, query, parts, hits, is_alive)?;
+    let answer = answer_over(alloc, query, parts, hits, is_alive, wanted)?;
     Ok(answer)
 }

@@ -13,10 +13,11 @@ mod hit;
 mod laws;
 mod met;
 mod part;
+mod ranking;
 mod span_laws;
 mod spans;
 
-pub use answer::{Answer, Row};
+pub use answer::{Answer, Row, Wanted};
 pub use found::{answer_by_hits, answer_by_living_hits, answer_from};
 pub use laws::{an_answer_is_one, each_query_has_an_answer, only_hits_matter, only_words_matter};
 pub use met::docs_met;

@@ -4,3 +4,4 @@ mod cache;
 mod find;
 mod propose;
 mod show;
+mod top;

@@ -18,7 +18,7 @@ use archive_changes::{BatchError, PlanReport, batch, delete, mark_format, plan};
 use archive_check::VerifyError;
 use archive_entries::{Declined, ReadError};
 use archive_hand::{Archive, ChangeError};
-use archive_questions::{AskError, between, certificate, find, propose, show, verify};
+use archive_questions::{AskError, between, certificate, find, propose, show, top, verify};
 use archive_replies::{ReplyPage, Summary};
 use base_commands::{Command, Item, MOST_TEXT_BYTES, Text};
 use base_types::{DocId, Time};
@@ -65,6 +65,10 @@ pub(crate) fn answer<D: Disk>(
             let result = find(alloc, disk, archive, at, &expr);
             write_answer(page, result)
         }
+        Command::Top { count, at, expr } => {
+            let result = top(alloc, disk, archive, count, at, &expr);
+            write_answer(page, result)
+        }
         Command::Between { span, expr } => {
             let result = between(alloc, disk, archive, span, &expr);
             write_answer(page, result)
@@ -94,7 +98,6 @@ pub(crate) fn answer<D: Disk>(
             write_verified(page, result)
         }
         Command::Begin { .. } => refuse(page, Refusal::Line),
-        Command::Top { .. } => refuse(page, Refusal::Line),
         Command::Best { .. } => refuse(page, Refusal::Line),
         Command::Approx { .. } => refuse(page, Refusal::Line),
         Command::Rough { .. } => refuse(page, Refusal::Line),

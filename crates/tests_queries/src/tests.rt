@@ -1,5 +1,6 @@
 //! The tests, by what they try.
 mod answers;
+mod firsts;
 mod given;
 mod language;
 mod trees;

@@ -1,7 +1,7 @@
 //! The answer to a query at a time.
 use super::given::{RedAndBlue, expect_same_in, parts_of, read};
 use base_types::{DocId, NOW, Time};
-use query_eval::{Row, answer_by_hits, answer_by_living_hits, answer_from};
+use query_eval::{Row, Wanted, answer_by_hits, answer_by_living_hits, answer_from};
 use std::alloc::Global;
 use std::process::Abort;
 
@@ -16,7 +16,7 @@ fn found(rt: &impl Abort, alloc: Global, text: &str, seconds: u64, alive: &[DocI
     let query = read(rt, alloc, text);
     let t = Time::new(seconds).expect(rt, "a time");
     let parts = parts_of(rt, alloc, &query, LISTS);
-    let answer = answer_from(alloc, &query, t, &parts, alive).expect(rt, "memory");
+    let answer = answer_from(alloc, &query, t, &parts, alive, Wanted::All).expect(rt, "memory");
     answer.rows
 }
 
@@ -25,7 +25,7 @@ fn found_by_hits(rt: &impl Abort, alloc: Global, text: &str, seconds: u64) -> Ve
     let query = read(rt, alloc, text);
     let t = Time::new(seconds).expect(rt, "a time");
     let parts = parts_of(rt, alloc, &query, LISTS);
-    let answer = answer_by_hits(alloc, &query, t, &parts).expect(rt, "memory");
+    let answer = answer_by_hits(alloc, &query, t, &parts, Wanted::All).expect(rt, "memory");
     answer.rows
 }
 
@@ -34,17 +34,22 @@ fn found_living(rt: &impl Abort, alloc: Global, text: &str, seconds: u64, dead: 
     let query = read(rt, alloc, text);
     let t = Time::new(seconds).expect(rt, "a time");
     let parts = parts_of(rt, alloc, &query, LISTS);
-    let answer = answer_by_living_hits(alloc, &query, t, &parts, |doc| doc != dead).expect(
-        rt, "memory",
-    );
+    let answer = answer_by_living_hits(
+        alloc,
+        &query,
+        t,
+        &parts,
+        |doc| doc != dead,
+        Wanted::All,
+    ).expect(rt, "memory");
     answer.rows
 }
 
 /// Documents and scores.
-type Wanted<'a> = &'a [(u32, u64)];
+type Rows<'a> = &'a [(u32, u64)];
 
 /// The rows of these documents and scores.
-fn rows_of(rt: &impl Abort, alloc: Global, wanted: Wanted<'_>) -> Vec<Row> {
+fn rows_of(rt: &impl Abort, alloc: Global, wanted: Rows<'_>) -> Vec<Row> {
     let mut rows = Vec::new(alloc);
     for (doc, score) in wanted {
         let row = Row {
@@ -57,7 +62,7 @@ fn rows_of(rt: &impl Abort, alloc: Global, wanted: Wanted<'_>) -> Vec<Row> {
 }
 
 /// Queries, times, and what is found then of the documents 1 to 5.
-const ROWS: [(&str, u64, Wanted<'static>); 10] = [
+const ROWS: [(&str, u64, Rows<'static>); 10] = [
     ("red", 25, &[(1, 2), (2, 1), (4, 1)]),
     ("red blue", 25, &[(1, 3)]),
     ("red not blue", 25, &[(2, 1), (4, 1)]),
@@ -78,7 +83,7 @@ const ROWS: [(&str, u64, Wanted<'static>); 10] = [
 fn expect_found(
     rt: &impl Abort,
     alloc: Global,
-    (text, seconds, wanted): (&str, u64, Wanted<'_>),
+    (text, seconds, wanted): (&str, u64, Rows<'_>),
     alive: &[DocId],
 ) {
     let rows = rows_of(rt, alloc, wanted);
@@ -97,7 +102,7 @@ fn rows_stand_by_score_and_then_by_document(rt: HostRuntime) {
 }
 
 /// Queries, times, what is found then by hits, a document, and what is found without it.
-const HITS: [(&str, u64, Wanted<'static>, u32, Wanted<'static>); 5] = [
+const HITS: [(&str, u64, Rows<'static>, u32, Rows<'static>); 5] = [
     ("red", 25, &[(1, 2), (2, 1), (4, 1)], 2, &[(1, 2), (4, 1)]),
     (
         "blue or red",
@@ -112,7 +117,7 @@ const HITS: [(&str, u64, Wanted<'static>, u32, Wanted<'static>); 5] = [
 ];
 
 /// By hits a query finds these at a time.
-fn expect_hits(rt: &impl Abort, alloc: Global, text: &str, seconds: u64, wanted: Wanted<'_>) {
+fn expect_hits(rt: &impl Abort, alloc: Global, text: &str, seconds: u64, wanted: Rows<'_>) {
     let rows = rows_of(rt, alloc, wanted);
     let answer = found_by_hits(rt, alloc, text, seconds);
     expect_same_in(rt, (text, seconds), answer.as_slice(), rows.as_slice());
@@ -125,7 +130,7 @@ fn expect_living(
     text: &str,
     seconds: u64,
     dead: DocId,
-    wanted: Wanted<'_>,
+    wanted: Rows<'_>,
 ) {
     let rows = rows_of(rt, alloc, wanted);
     let answer = found_living(rt, alloc, text, seconds, dead);

@@ -9,6 +9,28 @@ use std::alloc::Global;
 use std::fmt::Debug;
 use std::process::Abort;
 
+/// Numbers that look random: a linear congruential generator (D. Knuth, The Art of Computer
+/// Programming, 2, 3.3.4).
+#[derive(Drop)]
+pub(crate) struct Numbers {
+    /// What the next number is made from.
+    pub(crate) state: u64,
+}
+
+impl Numbers {
+    /// The next number, below `bound`, or 0 where that is 0.
+    pub(crate) fn below(&mut self, bound: u32) -> u32 {
+        self.state = self
+            .state
+            .wrapping_mul(6364136223846793005)
+            .wrapping_add(1442695040888963407);
+        if bound == 0 {
+            return 0;
+        }
+        u32::try_from(self.state >> 33).unwrap_or(0) % bound
+    }
+}
+
 /// What is found is what is wanted.
 pub(crate) fn expect_same<T: PartialEq + Debug + Drop>(rt: &impl Abort, found: T, wanted: T) {
     assert_eq!(rt; found, wanted);

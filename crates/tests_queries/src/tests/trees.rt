@@ -2,10 +2,10 @@
 ghost use Rattle.std.specs.Prelude.{◌≡◌, length};
 ghost use Rattle.query_lang.specs.Meaning.{words_of};
 
-use super::given::{expect_same_in, read};
+use super::given::{Numbers, expect_same_in, read};
 use base_types::{DocId, Posting, Span, Time};
 use lists_postings::Life;
-use query_eval::{Part, answer_from, answer_over, docs_met};
+use query_eval::{Part, Wanted, answer_from, answer_over, docs_met};
 use query_lang::Query;
 use std::alloc::Global;
 use std::process::Abort;
@@ -34,26 +34,7 @@ struct Said {
     odd: u32,
 }
 
-/// Numbers that look random: a linear congruential generator (D. Knuth, The Art of Computer
-/// Programming, 2, 3.3.4).
-#[derive(Drop)]
-struct Numbers {
-    state: u64,
-}
-
 impl Numbers {
-    /// The next number, below `bound`, or 0 where that is 0.
-    fn below(&mut self, bound: u32) -> u32 {
-        self.state = self
-            .state
-            .wrapping_mul(6364136223846793005)
-            .wrapping_add(1442695040888963407);
-        if bound == 0 {
-            return 0;
-        }
-        u32::try_from(self.state >> 33).unwrap_or(0) % bound
-    }
-
     /// A span that begins before the end and lasts for at most 8 seconds.
     fn span(&mut self) -> Option<Span> {
         let from = u64::from(self.below(12));
@@ -430,7 +411,7 @@ fn answered_at(
 {
     let t = Time::new(second).expect(rt, "a time");
     let alive = world.alive(rt, alloc, second);
-    let answer = answer_from(alloc, query, t, parts, &alive).expect(rt, "memory");
+    let answer = answer_from(alloc, query, t, parts, &alive, Wanted::All).expect(rt, "memory");
     let mut rows = Vec::new(alloc);
     for row in &answer.rows {
         rows.push((row.doc.0, row.score)).expect(rt, "memory");

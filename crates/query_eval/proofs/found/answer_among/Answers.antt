@@ -1,4 +1,5 @@
 use Rattle.std.proofs.Common.{length, ap, arith}
+use Rattle.query_eval.proofs.FirstLemmas.{wanted-weaker}
 use Rattle.query_eval.proofs.FoundLemmas.{answer-is}
 use Rattle.query_eval.proofs.found.answer_among.Goals as goal
 
@@ -7,5 +8,4 @@ answer_of-requires c = omega (arith, c.requires.many, c.words.ensures.few, ap le
 
 pub returns-clause-rows : goal.returns-clause-rows
 returns-clause-rows c = λ often tell.
-    let (sorted, permuted, in_order, rows) = c.in_ok-answer.ensures.rows in
-    answer-is c.args.alive.now often c.args.query.now c.in_ok-rows.rows.items sorted _ (c.in_ok-rows.ensures often tell) permuted in_order rows
+    wanted-weaker c.args.wanted _ (λ all is. answer-is c.args.alive.now often c.args.query.now c.in_ok-rows.rows.items all (c.in_ok-rows.ensures often tell) is) c.in_ok-answer.ensures.rows

@@ -5,6 +5,7 @@ use Rattle.query_lang.specs.Meaning.{words_of, occurring}
 use Rattle.query_eval.specs.Found.{told, HasHit}
 use Rattle.query_eval.specs.Hits.{is_of, gathered}
 use Rattle.query_eval.proofs.FoundLemmas.{hits-tell}
+use Rattle.query_eval.proofs.FirstLemmas.{wanted-weaker}
 use Rattle.query_eval.proofs.GivenLemmas.{same_alive}
 use Rattle.query_eval.proofs.HasHitLemmas.{documents-are}
 use Rattle.query_eval.proofs.found.answer_by_living_hits.Goals as goal
@@ -18,5 +19,5 @@ returns-clause-rows g c = λ alive tells.
     let each : (d : ℕ) → filter (is_of d) hits ≡ filter (is_of d) (gathered t 0 parts) = λ d. ap (filter (is_of d)) c.as_slice-hits.ensures.value ∙ c.in_ok-all.ensures.each d in
     let tell = hits-tell t words parts hits (IsDistinct-distinct (occurring c.args.query.now)) c.requires.many each in
     let had = documents-are t words parts hits c.requires.many each tell in
-    same_alive (λ doc. HasHit words parts t doc × (alive doc ≡ true)) _ (λ (doc : DocId). told words parts t doc.0) c.args.query.now _ (λ doc. (λ k. ((had doc).0 k.0, k.1), λ k. ((had doc).1 k.0, k.1)))
+    wanted-weaker c.args.wanted _ (λ rows is. same_alive (λ doc. HasHit words parts t doc × (alive doc ≡ true)) _ (λ (doc : DocId). told words parts t doc.0) c.args.query.now rows (λ doc. (λ k. ((had doc).0 k.0, k.1), λ k. ((had doc).1 k.0, k.1))) is)
     (c.in_ok-answer.ensures.rows alive tells (λ (doc : DocId). told words parts t doc.0) tell)

@@ -14,9 +14,6 @@ returns-in-Batch-clause-outcome g c = λ tells s in_step. rw (c.in-Command.is, c
 pub returns-in-Begin-clause-outcome : goal.returns-in-Begin-clause-outcome
 returns-in-Begin-clause-outcome g c = λ tells s in_step. rw (c.in-Command.is, c.in-Begin.is) (refused_by s (items.Command (plain.Begin _ _)) refusals.Line _ _ _ _ (refl, refl) in_step c.refuse-in-Begin.ensures.goes_on c.refuse-in-Begin.ensures.reply)
 
-pub returns-in-Top-clause-outcome : goal.returns-in-Top-clause-outcome
-returns-in-Top-clause-outcome g c = λ tells s in_step. rw (c.in-Command.is, c.in-Top.is) (refused_by s (items.Command (plain.Top _ _ _)) refusals.Line _ _ _ _ (refl, refl) in_step c.refuse-in-Top.ensures.goes_on c.refuse-in-Top.ensures.reply)
-
 pub returns-in-Best-clause-outcome : goal.returns-in-Best-clause-outcome
 returns-in-Best-clause-outcome g c = λ tells s in_step. rw (c.in-Command.is, c.in-Best.is) (refused_by s (items.Command (plain.Best _ _ _)) refusals.Line _ _ _ _ (refl, refl) in_step c.refuse-in-Best.ensures.goes_on c.refuse-in-Best.ensures.reply)
 
@@ -37,6 +34,9 @@ returns-in-Delete-clause-outcome g c = λ tells s in_step. rw (c.in-Command.is, 
 
 pub returns-in-Find-clause-outcome : goal.returns-in-Find-clause-outcome
 returns-in-Find-clause-outcome g c = λ tells s in_step. rw (c.in-Command.is, c.in-Find.is) (answers_by s _ _ _ _ _ _ _ (c.find-result.ensures.by_reads tells s in_step) c.write_answer.ensures.writes)
+
+pub returns-in-Top-clause-outcome : goal.returns-in-Top-clause-outcome
+returns-in-Top-clause-outcome g c = λ tells s in_step. rw (c.in-Command.is, c.in-Top.is) (answers_by s _ _ _ _ _ _ _ (c.top-result.ensures.by_reads tells s in_step) c.write_answer-in-Top.ensures.writes)
 
 pub returns-in-Between-clause-outcome : goal.returns-in-Between-clause-outcome
 returns-in-Between-clause-outcome g c = λ tells s in_step. rw (c.in-Command.is, c.in-Between.is) (answers_by s _ _ _ _ _ _ _ (c.between-result.ensures.by_reads tells s in_step) c.write_answer-in-Between.ensures.writes)

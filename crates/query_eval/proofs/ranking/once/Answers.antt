@@ -1,6 +1,6 @@
 use Rattle.std.proofs.Common.{◌+◌, ◌++◌, drop, sym, ap, ◌∙◌, append_assoc}
 use Rattle.query_eval.specs.Found.{once}
-use Rattle.query_eval.proofs.found.once.Goals as goal
+use Rattle.query_eval.proofs.ranking.once.Goals as goal
 
 pub loop-i-preserved : goal.loop-i-preserved
 loop-i-preserved c =
