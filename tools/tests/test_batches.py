@@ -30,6 +30,17 @@ FAKE = "fake_tt_archive" in os.environ.get("TT_ARCHIVE", "")
 FILES = 300
 
 
+class Steps(Progress):
+    """Keeps what the line on a terminal would tell."""
+
+    def __init__(self, shown: bool) -> None:
+        super().__init__(shown)
+        self.told: list[tuple[int, int]] = []
+
+    def step(self, count: int, at: int) -> None:
+        self.told.append((count, at))
+
+
 class Batched(ArchiveCase):
     def tree(self, count: int, size: int = 10) -> Path:
         """Files that change a second apart."""
@@ -87,16 +98,14 @@ class Imported(Batched):
     def test_a_batch_is_full_by_its_changes_or_its_bytes(self) -> None:
         self.tt("import", "folder", self.tree(3_100, size=1))
         self.assertEqual(self.sizes(), [0, 16, 32, 64, 128, 256, 512, 1_000, 1_000, 92])
-        for count, size in ((12, 1 << 20), (3, 4_194_304)):
-            self.new_archive()
-            shutil.rmtree(self.folder / "tree", ignore_errors=True)
-            for index in range(count):
-                file = self.tree(0) / f"{index}.txt"
-                file.write_bytes(b"word " * (size // 5))
-                os.utime(file, (START + index, START + index))
-            self.tt("import", "folder", self.folder / "tree")
-            self.assertEqual(sum(self.sizes()), count)
-            self.assertLessEqual(max(sum(map(len, (act.text for act in entry.acts))) for entry in self.entries()), 8_000_000 + size)
+        self.new_archive()
+        shutil.rmtree(self.folder / "tree")
+        for index in range(40):
+            file = self.tree(0) / f"{index}.txt"
+            file.write_bytes(b" " * 400_000)
+            os.utime(file, (START + index, START + index))
+        self.tt("import", "folder", self.folder / "tree")
+        self.assertEqual(self.sizes(), [0, 3, 20, 17])
 
     def test_an_archive_without_the_mark_gets_changes_one_by_one(self) -> None:
         tree = self.tree(40)
@@ -155,8 +164,10 @@ class Imported(Batched):
 
         real = Collection.send
         with mock.patch.dict(os.environ, environment), mock.patch.object(Collection, "send", send), self.open() as collection:
-            feeder = Feeder(collection, "made", "made", Notes(told.append), Progress(False))
+            steps = Steps(False)
+            feeder = Feeder(collection, "made", "made", Notes(told.append), steps)
             feeder.feed(changes)
+        self.assertEqual((sum(count for count, _ in steps.told), steps.told[-1][1]), (len(changes), changes[-1].time))
         return feeder, told, sent
 
     @unittest.skipUnless(FAKE, "only the stand-in has room for so few documents")
@@ -259,7 +270,7 @@ class Imported(Batched):
 
     def test_a_killed_import_goes_on(self) -> None:
         tree = self.tree(FILES)
-        slow = f"sh -c '{{ head -c 9000; sleep 1; cat; }} | {shlex.join(find_program(None))}'"
+        slow = f"sh -c '{{ dd bs=1 count=9000 status=none; sleep 1; cat; }} | {shlex.join(find_program(None))}'"
         run = [sys.executable, str(TOOLS / "tt"), "-C", str(self.archive), "import", "folder", str(tree)]
         journal = self.archive / "archive.journal"
         with subprocess.Popen(run, env={**os.environ, "TT_ARCHIVE": slow}, stdout=subprocess.PIPE, stderr=subprocess.PIPE) as tt:
@@ -276,8 +287,8 @@ class Imported(Batched):
         """Beside what is gathered, one batch is under way, however many were sent."""
         tree = self.folder / "tree"
         tree.mkdir()
-        for index in range(60):
-            (tree / f"{index}.txt").write_bytes(b"%07d " % index * (1 << 17))
+        for index in range(48):
+            (tree / f"{index}.txt").write_bytes(b" " * 1_000_000)
             os.utime(tree / f"{index}.txt", (START + index, START + index))
         tracemalloc.start()
         try:
@@ -285,8 +296,8 @@ class Imported(Batched):
             _, most = tracemalloc.get_traced_memory()
         finally:
             tracemalloc.stop()
-        self.assertEqual(sum(self.sizes()), 60)
-        self.assertLess(most, 48 << 20)
+        self.assertEqual(self.sizes(), [0, 2, 8, 8, 8, 8, 8, 6])
+        self.assertLess(most, 40_000_000)
 
 
 @needs("batches")

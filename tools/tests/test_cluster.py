@@ -75,6 +75,17 @@ class OneShard(ArchiveCase):
         self.assertEqual((where.entries, where.last, where.worker_process), (count, 5, os.getpid()))
         self.assertEqual(program.close(), (0, ""))
 
+    @unittest.skipUnless("fake_tt_archive" in os.environ.get("TT_ARCHIVE", ""), "only the stand-in can be one that knows less")
+    def test_a_program_that_knows_no_batch_is_asked_for_them(self) -> None:
+        with mock.patch.dict(os.environ, FAKE_WITHOUT="batch"):
+            program = ShardProgram(str(self.archive), find_program(None), True)
+        self.assertEqual(program.ask(1, commands.asks_for_batches(), 2), b"no 1 Line\nno 1 Line\nnone\n")
+        self.assertEqual(program.ask(2, commands.show(1, 9), 1), b"none\n")
+        program.close()
+        program = ShardProgram(str(self.archive), find_program(None), True)
+        self.assertEqual(program.ask(1, commands.asks_for_batches(), 2), b"no 16 BatchLine 1\nnone\n")
+        program.close()
+
     def test_a_program_that_ends_tells_why_again_and_again(self) -> None:
         broken = ["sh", "-c", f"sed -u 2q | {shlex.join(find_program(None))}; echo tt_archive: disk fault >&2; exit 4"]
         program = ShardProgram(str(self.archive), broken, True)

@@ -177,7 +177,7 @@ class Copies(ArchiveCase):
 
     def test_after_a_kill_nothing_acknowledged_is_missing(self) -> None:
         """KILL to tt in the middle of an import: its programs work on for as long as they have input, and the next tt waits."""
-        slow = f"sh -c '{{ head -c 3000; sleep 1; cat; }} | {shlex.join(find_program(None))}'"
+        slow = f"sh -c '{{ dd bs=1 count=3000 status=none; sleep 1; cat; }} | {shlex.join(find_program(None))}'"
         run = [sys.executable, str(TOOLS / "tt"), "-C", str(self.archive), "import", "folder", str(self.tree)]
         with subprocess.Popen(run, env={**os.environ, "TT_ARCHIVE": slow}, stdout=subprocess.PIPE, stderr=subprocess.PIPE) as tt:
             until = time.monotonic() + 30

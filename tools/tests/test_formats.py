@@ -14,7 +14,7 @@ from model import Archive, Choice, NotArchive, Outcome, spell_journal
 
 TESTS = Path(__file__).resolve().parent
 STAND_IN = [sys.executable, "-S", "-E", TESTS / "fake_tt_archive"]
-FORMATS = TESTS.parents[1] / "docs" / "formats.md"
+FORMATS, MANUAL = (TESTS.parents[1] / "docs" / name for name in ("formats.md", "manual.md"))
 #: The model goes over each letter, so of long texts only the program and the stand-in are asked.
 MOST_BYTES = 100_000
 BATCH = b"format 2\nbatch 2\narrive 7 20 4\nblue\narrive 8 20 3\nred\nfind 20 red\n"
@@ -60,6 +60,14 @@ class Batches(unittest.TestCase):
             self.assertEqual(archive.run(script, Choice([], wanted.shown)), wanted, script)
             self.assertEqual(self.stand_in(script), wanted, script)
             self.assertEqual(self.journal.read_bytes(), spell_journal(archive.entries))
+
+    def test_the_example_of_the_manual(self) -> None:
+        told = MANUAL.read_text().split("**`batch N`**")[1]
+        script = told.split("```\n")[1].encode()
+        replies = re.search("replies are ([^:]*):", told)[1]
+        wanted = "".join(reply + "\n" for reply in re.findall("`([^`]*)`", replies)).encode()
+        self.assertEqual(self.stand_in(script), Outcome(wanted, "", 0))
+        self.assertEqual(Archive().run(script, Choice([], wanted)), Outcome(wanted, "", 0))
 
     def test_the_bytes_that_the_formats_have(self) -> None:
         self.stand_in(ONE_SCRIPT + BATCH)

@@ -86,7 +86,7 @@ class Outbox:
             origin.begin()
         sides = self._by_side()
         self._collection.names.keep()
-        count, last = len(self._gathered), self._gathered[-1][0].time
+        count, until = len(self._gathered), self._gathered[-1][0].time
         self._gathered.clear()
         self._bytes = 0
         takes_batches = self._collection.takes_batches
@@ -96,11 +96,10 @@ class Outbox:
         else:
             self._most = min(2 * self._most, _MOST)
         for side, acts in sides.items():
-            last = self._lasts[side]
-            apart = len(acts) if not takes_batches(side) else sum(last is not None and act.time <= last for act in acts)
+            apart = self._apart(side, acts) if takes_batches(side) else len(acts)
             self._send(side, _Turn(acts[:apart], together=False))
             self._send(side, _Turn(acts[apart:], together=True))
-        self._progress(count, last)
+        self._progress(count, until)
 
     def settle(self) -> None:
         """Waits for the replies to all that was sent, and sends what is left of refused batches."""
@@ -109,6 +108,11 @@ class Outbox:
             for side in sides:
                 self._send(side, self._left[side].popleft())
             self._collection.settle()
+
+    def _apart(self, side: int, acts: list[_Act]) -> int:
+        """How many of the first changes may be in the archive already."""
+        last = self._lasts[side]
+        return 0 if last is None else next((at for at, act in enumerate(acts) if act.time > last), len(acts))
 
     def _by_side(self) -> dict[int, list[_Act]]:
         names, side_of = self._collection.names, self._collection.side_of

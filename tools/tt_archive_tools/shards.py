@@ -69,8 +69,14 @@ def split(archive: Collection, into: Collection) -> int:
 
 
 def _send(into: Collection, lines: dict[int, list[bytes]]) -> None:
+    """Sends changes, of which none is refused, as the archive has taken them before."""
     for side, script in lines.items():
-        into.send(side, b"".join(script), script, _taken)
+        if not into.takes_batches(side):
+            into.send(side, b"".join(script), script, _taken)
+            continue
+        for at in range(0, len(script), commands.MOST_OF_BATCH):
+            batch = script[at : at + commands.MOST_OF_BATCH]
+            into.send(side, commands.batch(batch), batch[:1], _taken)
     lines.clear()
 
 

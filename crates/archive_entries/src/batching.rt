@@ -204,8 +204,7 @@ fn content_of(text: &Text) -> Result<&str, Refusal>
 /// `Refused`: for the first cause in order, the archive has no mark; an item is neither an arrival nor a
 /// deletion; or an item is refused behind those before it, as an arrival or a deletion of its own. The
 /// journal's room isn't asked. `Memory`: an allocation failed.
-/// Costs the texts' words twice as much as their bytes say, two look-ups an item, and for each item a pass over
-/// those before it.
+/// Costs the words of the texts, two look-ups an item, and for each item two passes over those before it.
 pub fn prepare_batch<'a>(
     alloc: Global,
     directory: &Directory,

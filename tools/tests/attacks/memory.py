@@ -16,9 +16,10 @@ from attacks.rig import NO_MEMORY, Whole, expect, some
 
 SOURCE = Path(__file__).with_name("refuse.c")
 MOST = 2_000
-#: Rounds of changes, plans and questions, which ask for more than so many allocations.
-LONG_SCRIPT = b"".join(
-    b"arrive 1 %d 8\nred w%03d\narrive 2 %d 4\nblue\ndelete 1 %d\narrive 3 %d 8\nred blue\n" % (time, time, time + 1, time + 2, time + 3)
+#: Rounds of changes, batches, plans and questions, which ask for more than so many allocations.
+LONG_SCRIPT = b"format 2\n" + b"".join(
+    b"batch 3\narrive 4 %d 9\nred blue!\narrive 5 %d 9\nblue w%03d\ndelete 4 %d\n" % (time - 1, time - 1, time + 500, time)
+    + b"arrive 1 %d 8\nred w%03d\narrive 2 %d 4\nblue\ndelete 1 %d\narrive 3 %d 8\nred blue\n" % (time, time, time + 1, time + 2, time + 3)
     + b"plan red guarantee 3/2\nplan blue space 2/1 uniform\nfind %d red or blue and not w%03d\n" % (time + 2, time)
     + b"between 5 %d blue not red\npropose red guarantee 1/1\ncertificate red\nverify\nshow 3 %d\nnonsense\n" % (time, time)
     for time in range(10, 100, 10)
