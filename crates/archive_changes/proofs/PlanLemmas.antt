@@ -23,20 +23,20 @@ use Rattle.model_archive.specs.Histories.{History, end_of}
 use Rattle.model_archive.specs.Planning.{IsKnown, OfWidth, OfPhrase, last_second}
 use Rattle.model_archive.specs.Plans.{live_extents}
 use Rattle.model_archive.specs.Steps as steps
-use Rattle.model_archive.specs.Steps.{Reply, Refused, Summary, Declines, AddsPlan, StoresCuts, StoresPlan, Plans, full_journal, spelled_key}
+use Rattle.model_archive.specs.declared.summary.Summary.{Summary}
+use Rattle.model_archive.specs.Steps.{Reply, Refused, Declines, AddsPlan, StoresCuts, StoresPlan, Plans, full_journal, spelled_key}
 use Rattle.model_archive.proofs.HistoryLemmas.{end_of-push}
 use Rattle.model_archive.proofs.RefusalLemmas.{when_true, when_false}
 use Rattle.archive_hand.specs.Changing.{KeepsBy}
 use Rattle.archive_hand.specs.Stored.{Store}
 use Rattle.archive_hand.specs.States.{ArchiveState, AreInStepBy, with_reads}
-use Rattle.archive_plans.specs.Readying.{IsFull, plan_with, tells_of, summary_of}
+use Rattle.archive_plans.specs.Readying.{IsFull, plan_with, tells_of}
 use Rattle.archive_hand.specs.Storing.{IsDraft, IsStoredAs, IsStoredBy}
 use Rattle.archive_hand.specs.Takes.{Comes, TakesBy}
 use Rattle.archive_changes.specs.Endings.{planned}
 use Rattle.archive_hand.specs.declared.error.ChangeError.{ChangeError}
 use Rattle.archive_hand.specs.declared.error.ChangeError.TheVariants as changes
 use Rattle.archive_plans.specs.declared.readying.Draft.{Draft}
-use Rattle.archive_plans.specs.declared.readying.PlanReport.{PlanReport}
 use Rattle.archive_hand.proofs.ByReadsLemmas.{stocks_same}
 use Rattle.archive_changes.proofs.TakeLemmas.{unmade_by}
 use Rattle.archive_hand.proofs.PhraseLemmas.{goes_on, map_phrase}
@@ -98,10 +98,10 @@ plans_refused h phrase kind factor why of =
     (λ because e. (refl, ap Refused e)) (λ word list none. absurd none) of
 
 -- the same by what reads give
-pub plan_by : (s : Store) (phrase : List ℕ) (kind : Kind) (factor : Fraction) (draft : Draft) (r : Result PlanReport ChangeError) (old new : DiskState) (a b : ArchiveState) → AreInStepBy old a s
+pub plan_by : (s : Store) (phrase : List ℕ) (kind : Kind) (factor : Fraction) (draft : Draft) (r : Result Summary ChangeError) (old new : DiskState) (a b : ArchiveState) → AreInStepBy old a s
     → spelled_key (one_term phrase) ≡ Some draft.word → IsKnown s.history draft.word → draft.kind ≡ kind → draft.factor ≡ factor → IsDraft s.history draft
     → ((why : Refusal) → r ≡ Err (changes.Refused why) → (new ≡ old) × Plans s.history phrase kind factor (Refused why) s.history × AreInStepBy old b (with_reads s b old)) → (r ≡ Err changes.Memory → new ≡ old)
-    → IfOk r (λ report. (next : Store) × (IsStoredBy s next draft old new × (summary_of report ≡ tells_of draft (length s.history + 1)) × AreInStepBy new b next))
+    → IfOk r (λ told. (next : Store) × (IsStoredBy s next draft old new × (told ≡ tells_of draft (length s.history + 1)) × AreInStepBy new b next))
     → (r ≡ Err changes.Failed → KeepsBy s old new ⊎ ((next : Store) × IsStoredBy s next draft old new)) → TakesBy s (items.Command (commands.Plan phrase kind factor)) (planned r) old new b
 plan_by s phrase kind factor draft r old new a b in_step term known kind_is same is refused memory puts stops = go r refused memory puts stops
   where
@@ -114,10 +114,10 @@ plan_by s phrase kind factor draft r old new a b in_step term known kind_is same
         let plans = subst P (sym stored.next_is) (rw told_is (plans_stored s.history phrase kind factor draft stored.plan term known kind_is same is stored.stored)) in
         record { step = (plans, stored.stocks); leads = stored.leads; still = λ none. absurd none }
 
-    go : (r : Result PlanReport ChangeError) → ((why : Refusal) → r ≡ Err (changes.Refused why) → (new ≡ old) × Plans s.history phrase kind factor (Refused why) s.history × AreInStepBy old b (with_reads s b old)) → (r ≡ Err changes.Memory → new ≡ old)
-        → IfOk r (λ report. (next : Store) × (IsStoredBy s next draft old new × (summary_of report ≡ tells_of draft (length s.history + 1)) × AreInStepBy new b next))
+    go : (r : Result Summary ChangeError) → ((why : Refusal) → r ≡ Err (changes.Refused why) → (new ≡ old) × Plans s.history phrase kind factor (Refused why) s.history × AreInStepBy old b (with_reads s b old)) → (r ≡ Err changes.Memory → new ≡ old)
+        → IfOk r (λ told. (next : Store) × (IsStoredBy s next draft old new × (told ≡ tells_of draft (length s.history + 1)) × AreInStepBy new b next))
         → (r ≡ Err changes.Failed → KeepsBy s old new ⊎ ((next : Store) × IsStoredBy s next draft old new)) → TakesBy s item (planned r) old new b
-    go (Ok report) refused memory (next, (stored, told, there)) stops = (next, comes next (summary_of report) told stored, there)
+    go (Ok summary) refused memory (next, (stored, told, there)) stops = (next, comes next summary told stored, there)
     go (Err error) refused memory puts stops =
         unmade_by s item error old new a b in_step (λ why is. let (still, declines, there) = refused why (ap Err is) in (still, (declines, stocks_same s b old in_step.live), there))
         (λ is. elim (stops (ap Err is)) [

@@ -1,8 +1,7 @@
 -- How the calls that change an archive end.
 use Rattle.std.specs.Prelude.{ℕ, None, Result, Ok, Err}
+use Rattle.model_archive.specs.declared.summary.Summary.{Summary}
 use Rattle.model_archive.specs.Steps.{Accepted, Refused, Planned, refused_for}
-use Rattle.archive_plans.specs.declared.readying.PlanReport.{PlanReport}
-use Rattle.archive_plans.specs.Readying.{summary_of}
 use Rattle.archive_hand.specs.declared.error.ChangeError.{ChangeError}
 use Rattle.archive_hand.specs.declared.error.ChangeError.TheVariants as changes
 use Rattle.archive_changes.specs.declared.error.BatchError.{BatchError}
@@ -19,8 +18,8 @@ abbrev pub changed : Result ℕ ChangeError → Ending
 changed (Ok length) = Replied (Accepted length)
 changed (Err error) = unchanged error
 
-abbrev pub planned : Result PlanReport ChangeError → Ending
-planned (Ok report) = Replied (Planned (summary_of report))
+abbrev pub planned : Result Summary ChangeError → Ending
+planned (Ok summary) = Replied (Planned summary)
 planned (Err error) = unchanged error
 
 -- ---- batches

@@ -11,7 +11,6 @@ mod changing;
 mod error;
 mod planning;
 
-pub use archive_plans::PlanReport;
 pub use batching::batch;
 pub use changing::{arrive, delete, mark_format};
 pub use error::BatchError;

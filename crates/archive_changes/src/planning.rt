@@ -7,7 +7,6 @@ ghost use Rattle.archive_hand.specs.States.{StandsFor, AreInStepBy, Reaches};
 ghost use Rattle.archive_hand.specs.Stored.{Store};
 ghost use Rattle.archive_hand.specs.Takes.{TakesBy};
 ghost use Rattle.archive_changes.specs.Endings.{planned};
-ghost use Rattle.archive_plans.specs.Readying.{summary_of};
 ghost use Rattle.archive_changes.specs.After.{AfterChange};
 ghost use Rattle.archive_hand.specs.Adding.{IsSpent};
 ghost use Rattle.base_commands.specs.declared.command.Command.TheVariants as commands;
@@ -18,11 +17,11 @@ ghost use Rattle.model_archive.specs.Planning.{OfPhrase, OfWidth, IsKnown};
 
 use archive_entries::Declined;
 use archive_hand::{Archive, ChangeError, Sealed};
-use archive_plans::{Draft, PlanReport};
+use archive_plans::Draft;
 use base_commands::{Kind, Phrase};
 use base_types::Fraction;
 use machine_model::Disk;
-use model_archive::Refusal;
+use model_archive::{Refusal, Summary};
 use plans_choice::{Choice, ChoiceError, choose};
 use std::alloc::Global;
 
@@ -45,7 +44,7 @@ pub fn plan<D: Disk>(
     word: &Phrase,
     kind: Kind,
     factor: Fraction,
-) -> Result<PlanReport, ChangeError>
+) -> Result<Summary, ChangeError>
     requires live { IsTrue archive.old.live }
     requires within { Reaches (D.disk disk.old).reach archive.old }
     ensures only { D.Disk.only disk.old disk.new }
@@ -53,7 +52,7 @@ pub fn plan<D: Disk>(
     // On any disk, whatever history it stood for: a refusal has its cause there, and comes wherever there is one (unless memory runs out); at Ok
     // the archive stands for a history with a plan that may be stored.
     ensures refused { (h : History) → StandsFor archive.old h → (why : Refusal) → IsErrOf result (ChangeError.Refused why) → Plans h word.now kind factor (Refused why) h × StandsFor archive.new h }
-    ensures stores { (h : History) → StandsFor archive.old h → IfOk result (λ r. (next : History) × (Plans h word.now kind factor (Planned (summary_of r)) next × StandsFor archive.new next)) }
+    ensures stores { (h : History) → StandsFor archive.old h → IfOk result (λ r. (next : History) × (Plans h word.now kind factor (Planned r) next × StandsFor archive.new next)) }
     // In step by what reads give, whatever lies in Pages, it is a step; each image left since stands for what was before it or after it.
     ensures by_reads { D.disk_tells → (s : Store) → AreInStepBy (D.disk disk.old) archive.old s → TakesBy s (items.Command (commands.Plan word.now kind factor)) (planned result) (D.disk disk.old) (D.disk disk.new) archive.new }
 {

@@ -81,20 +81,24 @@ placed_lie h cs end placed at =
 -- ---- plans
 
 -- the live plans have their fields in their ranges
-abbrev is_entry : StoredPlan → Type 0
+abbrev pub is_entry : StoredPlan → Type 0
 is_entry stored = IsPlanEntry stored.plan
 
-live_entries : (before : History) (gate : ℕ) (live : List StoredPlan) (h : History) → EachMayCome IsFitFor before h → All is_entry live → All is_entry (live_after gate live h)
-live_entries before gate live [] each all = all
-live_entries before gate live (Arrive doc at text ∷ h) each all = live_entries (before ++ Arrive doc at text ∷ []) (gate + 5 + length (spelling (Arrive doc at text))) live h each.1 all
-live_entries before gate live (Delete doc at ∷ h) each all = live_entries (before ++ Delete doc at ∷ []) (gate + 5 + length (spelling (Delete doc at))) live h each.1 all
-live_entries before gate live (Format ∷ h) each all = live_entries (before ++ Format ∷ []) (gate + 5 + length (spelling Format)) live h each.1 all
-live_entries before gate live (Batch batch ∷ h) each all = live_entries (before ++ Batch batch ∷ []) (gate + 5 + length (spelling (Batch batch))) live h each.1 all
-live_entries before gate live (Planned plan ∷ h) each all =
+still_entries : (before : History) (gate : ℕ) (live : List StoredPlan) (h : History) → EachMayCome IsFitFor before h → All is_entry live → All is_entry (live_after gate live h)
+still_entries before gate live [] each all = all
+still_entries before gate live (Arrive doc at text ∷ h) each all = still_entries (before ++ Arrive doc at text ∷ []) (gate + 5 + length (spelling (Arrive doc at text))) live h each.1 all
+still_entries before gate live (Delete doc at ∷ h) each all = still_entries (before ++ Delete doc at ∷ []) (gate + 5 + length (spelling (Delete doc at))) live h each.1 all
+still_entries before gate live (Format ∷ h) each all = still_entries (before ++ Format ∷ []) (gate + 5 + length (spelling Format)) live h each.1 all
+still_entries before gate live (Batch batch ∷ h) each all = still_entries (before ++ Batch batch ∷ []) (gate + 5 + length (spelling (Batch batch))) live h each.1 all
+still_entries before gate live (Planned plan ∷ h) each all =
     let new : StoredPlan = record { gate = gate; plan = plan } in
-    live_entries (before ++ Planned plan ∷ []) (gate + 5 + length (spelling (Planned plan))) (with_plan live new) h each.1
+    still_entries (before ++ Planned plan ∷ []) (gate + 5 + length (spelling (Planned plan))) (with_plan live new) h each.1
     (All-append is_entry (filter (is_another plan.word) live) (new ∷ []) (All-filter (is_another plan.word) is_entry live all) (All-cons is_entry new [] each.0.ranges (All-nil is_entry)))
 
+pub live_entries : (h : History) → IsLoadable h → All is_entry (live_plans h)
+live_entries h loads = still_entries [] 16 [] h loads (All-nil is_entry)
+
+-- so each has its places, inside Pages
 plans_lie : (reach : ℕ) (live : List StoredPlan) → All is_entry live → All (IsInside reach) (flat_map (λ (s : StoredPlan). extents_of s.plan) live) → All (λ s. LiesInside reach s.plan) live
 plans_lie reach [] entries inside = All-nil (λ s. LiesInside reach s.plan)
 plans_lie reach (s ∷ live) entries inside =
@@ -103,4 +107,4 @@ plans_lie reach (s ∷ live) entries inside =
     All-cons (λ t. LiesInside reach t.plan) s live (record { as_many = here.well_cut.places; inside = both.0 }) (plans_lie reach live (All-tail is_entry s live entries) both.1)
 
 pub live_lie : (h : History) (reach : ℕ) → IsLoadable h → AreLive (live_extents h) reach → All (λ s. LiesInside reach s.plan) (live_plans h)
-live_lie h reach loads live = plans_lie reach (live_plans h) (live_entries [] 16 [] h loads (All-nil is_entry)) live.0
+live_lie h reach loads live = plans_lie reach (live_plans h) (live_entries h loads) live.0

@@ -13,6 +13,9 @@ use Rattle.lists_versions.specs.Changes.{mapped}
 use Rattle.journal_gates.specs.Spelled.{Spells}
 use Rattle.journal_gates.specs.InStep.{IsInStep}
 use Rattle.journal_gates.specs.Crash.{Appends, KeepsPages}
+use Rattle.journal_gates.specs.State.{JournalState}
+use Rattle.journal_gates.specs.declared.error.AppendError.{AppendError}
+use Rattle.journal_gates.specs.declared.error.AppendError.TheVariants as appends
 use Rattle.journal_gates.proofs.InStepLemmas.{step_spells}
 use Rattle.machine_model.specs.declared.range.Range.{Range}
 use Rattle.pages_area.specs.Crash.{ChangesOnly}
@@ -148,6 +151,13 @@ appends_nowhere d end bodies body step = record {
   goes_on = goes_on_same d;
   images = left_now d (λ image beside. (Spells image.journal bodies ⊎ Spells image.journal (bodies ++ body ∷ [])) × (beside ≡ d.now.beside)) (λ image allowed. (inl (step_spells d end bodies step image allowed), refl));
 }
+
+-- ---- an append that fails
+
+-- it leaves the end
+pub end_stays : (e : AppendError) (new old : JournalState) → (e ≡ appends.Full → new ≡ old) → (e ≡ appends.Failed → new ≡ record old { live = false }) → new.end ≡ old.end
+end_stays appends.Full new old full failed = ap (λ (s : JournalState). s.end) (full refl)
+end_stays appends.Failed new old full failed = ap (λ (s : JournalState). s.end) (failed refl)
 
 -- ---- over writes to pages, reads, and a disk that reaches further
 

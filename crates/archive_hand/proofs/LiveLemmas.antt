@@ -1,13 +1,13 @@
 -- What holds of the extents of live plans holds with one more.
-use Rattle.std.proofs.Common.{◌≡◌, ℕ, ◌+◌, Bool, true, false, cond, List, [], ◌∷◌, ◌++◌, length, filter, All, ap, subst, sym, ◌∙◌, arith}
-use Rattle.std.proofs.lemmas.List.{append-nil, length-append, get_or_append_left, get_or-append-add}
-use Rattle.std.proofs.lemmas.List.Concat.{flat_map-append}
+use Rattle.std.proofs.Common.{ℕ, ◌+◌, Bool, true, false, cond, List, [], ◌∷◌, ◌++◌, length, filter, All, subst, sym, arith}
+use Rattle.std.proofs.lemmas.List.{length-append, get_or_append_left, get_or-append-add}
 use Rattle.std.proofs.lemmas.List.Elements.{All-append}
 use Rattle.base_types.specs.declared.extent.Extent.{Extent}
 use Rattle.pages_area.specs.Live.{IsInside}
 use Rattle.model_archive.specs.declared.stored.StoredPlan.{StoredPlan}
 use Rattle.model_archive.specs.Plans.{is_another, with_plan, extents_of}
 use Rattle.archive_plans.specs.Shelves.{extents_all}
+use Rattle.archive_plans.proofs.ShelfLemmas.{extents_push}
 
 all_left : (P : Extent → Type 0) (xs ys : List Extent) → All P (xs ++ ys) → All P xs
 all_left P xs ys all = λ k d lt. subst P (get_or_append_left xs ys d k lt) (all k d (omega (arith, lt, length-append xs ys)))
@@ -25,10 +25,6 @@ all_filtered P p (s ∷ live) all =
     go false one rest = rest
 
 -- the extents of plans with one more
-extents_push : (live : List StoredPlan) (stored : StoredPlan) → extents_all (live ++ stored ∷ []) ≡ extents_all live ++ extents_of stored.plan
-extents_push live stored =
-    flat_map-append (λ (s : StoredPlan). extents_of s.plan) live (stored ∷ []) ∙ ap (λ (es : List Extent). extents_all live ++ es) (append-nil (extents_of stored.plan))
-
 pub all_inside_with : (reach : ℕ) (live : List StoredPlan) (stored : StoredPlan) → All (IsInside reach) (extents_all live) → All (IsInside reach) (extents_of stored.plan)
     → All (IsInside reach) (extents_all (with_plan live stored))
 all_inside_with reach live stored all more =

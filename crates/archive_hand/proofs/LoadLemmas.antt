@@ -1,4 +1,4 @@
--- What an archive that was loaded stands for, and each image left; and journals and places that are no archive's.
+-- What an archive that was loaded stands for, and each image left.
 use Rattle.std.proofs.Common.{◌≡◌, ℕ, ◌<◌, ◌≤◌, List, [], ◌∷◌, length, All, Result, Ok, Err, IfOk, inl, inr, refl, ap, subst, sym, ◌∙◌, arith, Bool, length-append}
 use Rattle.std.proofs.lemmas.List.Elements.{All-nil}
 use Rattle.machine_model.specs.Areas.{Bytes}
@@ -10,12 +10,11 @@ use Rattle.journal_gates.specs.Spelled.{Spells, EachSpells}
 use Rattle.journal_gates.specs.InStep.{IsInStep}
 use Rattle.journal_gates.specs.Crash.{KeepsPages, KeepsBodies}
 use Rattle.model_archive.specs.Histories.{History, end_of}
-use Rattle.model_archive.specs.Legal.{IsLoadable}
-use Rattle.model_archive.specs.Plans.{live_extents, live_plans}
-use Rattle.model_archive.specs.Stands.{bodies_of, EachStands, IsNotArchive}
+use Rattle.model_archive.specs.Plans.{live_extents}
+use Rattle.model_archive.specs.Stands.{bodies_of, EachStands}
 use Rattle.model_archive.proofs.HistoryLemmas.{end_of-least, end_of_is}
 use Rattle.archive_hand.specs.States.{ArchiveState, StandsFor, Reaches, AreInStepBy}
-use Rattle.archive_plans.specs.Shelves.{ShelfState, IsBadShelf, extents_all}
+use Rattle.archive_plans.specs.Shelves.{ShelfState, extents_all}
 use Rattle.lists_index.specs.Indexes.{IndexState, Indexes}
 use Rattle.archive_hand.specs.Changing.{KeepsHistory}
 use Rattle.pages_area.specs.Taken.{HasTaken}
@@ -30,7 +29,7 @@ use Rattle.journal_gates.specs.declared.error.JournalError.TheVariants.{Failed, 
 use Rattle.archive_entries.specs.declared.error.LoadError.{LoadError}
 use Rattle.archive_entries.specs.declared.error.LoadError.TheVariants.{NotArchive}
 use Rattle.archive_entries.specs.Causes.{load_error_of}
-use Rattle.archive_entries.specs.Replaying.{IsReplayed, IsBadAmong}
+use Rattle.archive_entries.specs.Replaying.{IsReplayed}
 use Rattle.std.proofs.lemmas.Bool.{cases_lt}
 use Rattle.archive_hand.specs.Stored.{Store, HasSame}
 use Rattle.archive_hand.proofs.AddLemmas.{step_reads}
@@ -76,21 +75,6 @@ stands_replayed h live heads changes index plans shelf end marked at many replay
   pages_are = subst (λ (l : List StoredPlan). HasTaken shelf.pages (extents_all l)) replayed.plans_are taken;
   marked_is = mark;
 }
-
--- bodies of which one is bad are no archive's
-pub bad_archive : (image : Bytes) (bodies : List (List ℕ)) (at : ℕ) → Spells image.journal bodies → IsBadAmong bodies at → IsNotArchive image at
-bad_archive image bodies at spelled bad =
-    inr (inl (record { before = bad.before; body = bad.next.body; rest = bad.next.rest; spelled = rw (← bad.next.split) spelled; loadable = bad.loadable; fault = bad.next.fault }))
-
--- nor are places that lie badly
-pub bad_shelf : (image : Bytes) (h : History) (plans : List StoredPlan) (reach at : ℕ) → Spells image.journal (bodies_of h) → IsLoadable h → plans ≡ live_plans h → reach ≡ length image.pages → IsBadShelf plans reach at → IsNotArchive image at
-bad_shelf image h plans reach at spelled loads live long bad =
-    let is = subst (λ (l : List StoredPlan). IsBadShelf l (length image.pages) at) live (subst (λ (n : ℕ). IsBadShelf plans n at) long bad) in
-    inr (inr (record { history = h; spelled = spelled; loadable = loads; index = is.index; inside = is.inside; good = is.good; bad = is.bad; at_is = is.at_is }))
-
--- pages that are as long as those of a disk are as long as it tells after reads
-pub pages_long : (image : Bytes) (old after : DiskState) (reach : ℕ) → reach ≡ after.reach.pages → OnlyReads old after → length image.pages ≡ old.reach.pages → reach ≡ length image.pages
-pages_long image old after reach is same long = is ∙ ap (λ (d : DiskState). d.reach.pages) same ∙ sym long
 
 -- a journal of at most 17 bytes spells the bodies of the empty history alone
 pub none_spelled : (h : History) (bytes : List ℕ) → length bytes ≤ 17 → Spells bytes (bodies_of h) → h ≡ []

@@ -15,7 +15,7 @@ ghost use Rattle.archive_plans.specs.Shelves.{extents_all};
 ghost use Rattle.archive_hand.specs.Storing.{HasPutDown, HasStopped, IsDraft, IsStoredAs, IsStoredBy};
 ghost use Rattle.model_archive.specs.Histories.{History};
 ghost use Rattle.journal_entries.specs.declared.plan.PlanEntry.{PlanEntry};
-ghost use Rattle.archive_plans.specs.Readying.{IsFull, summary_of, tells_of};
+ghost use Rattle.archive_plans.specs.Readying.{IsFull, tells_of};
 ghost use Rattle.archive_hand.specs.States.{StandsFor, CacheStands, AreInStepBy, Reaches};
 ghost use Rattle.archive_hand.specs.Changing.{KeepsBy};
 ghost use Rattle.archive_hand.specs.Stored.{Store};
@@ -24,10 +24,10 @@ ghost use Rattle.journal_entries.specs.declared.entry.Entry.TheVariants as entri
 
 use crate::archive::Archive;
 use crate::error::ChangeError;
-use archive_plans::{Draft, PlanReport, Ready, Shelf, make_ready};
+use archive_plans::{Draft, Ready, Shelf, make_ready};
 use journal_gates::{AppendError, Frame, Journal};
 use machine_model::{Disk, Failed};
-use model_archive::Refusal;
+use model_archive::{Refusal, Summary};
 use pages_sublists::{Prepared, Sublists};
 use std::alloc::Global;
 
@@ -45,7 +45,7 @@ impl Archive {
         alloc: Global,
         disk: &mut D,
         draft: Draft,
-    ) -> Result<PlanReport, ChangeError>
+    ) -> Result<Summary, ChangeError>
         requires live { IsTrue self.old.live }
         requires within { Reaches (D.disk disk.old).reach self.old }
         requires drafted { (h : History) → StandsFor self.old h → IsDraft h draft }
@@ -58,10 +58,10 @@ impl Archive {
         ensures cached { D.disk_tells → CacheStands (D.disk disk.old) self.old → IsDone result → CacheStands (D.disk disk.new) self.new }
         ensures spent { (IsErrOf result ChangeError.Memory ⊎ IsErrOf result ChangeError.Failed) → IsSpent self.old self.new }
         ensures refused { (h : History) → StandsFor self.old h → (why : Refusal) → IsErrOf result (ChangeError.Refused why) → IsFull draft (live_extents h) self.old.end why × StandsFor self.new h }
-        ensures stores { (h : History) → StandsFor self.old h → IfOk result (λ r. (plan : PlanEntry) × (IsStoredAs h draft plan × (summary_of r ≡ tells_of draft (length h + 1)) × StandsFor self.new (h ++ entries.Planned plan ∷ []))) }
+        ensures stores { (h : History) → StandsFor self.old h → IfOk result (λ r. (plan : PlanEntry) × (IsStoredAs h draft plan × (r ≡ tells_of draft (length h + 1)) × StandsFor self.new (h ++ entries.Planned plan ∷ []))) }
         // By what reads give, whatever lies in Pages: at Ok the draft's plan comes behind the history; where the disk failed, all is as it was, or it does.
         ensures puts { D.disk_tells → (s : Store) → AreInStepBy (D.disk disk.old) self.old s →
-            IfOk result (λ r. (next : Store) × (IsStoredBy s next draft (D.disk disk.old) (D.disk disk.new) × (summary_of r ≡ tells_of draft (length s.history + 1)) × AreInStepBy (D.disk disk.new) self.new next)) }
+            IfOk result (λ r. (next : Store) × (IsStoredBy s next draft (D.disk disk.old) (D.disk disk.new) × (r ≡ tells_of draft (length s.history + 1)) × AreInStepBy (D.disk disk.new) self.new next)) }
         ensures stops { D.disk_tells → (s : Store) → AreInStepBy (D.disk disk.old) self.old s → IsErrOf result ChangeError.Failed →
             KeepsBy s (D.disk disk.old) (D.disk disk.new) ⊎ ((next : Store) × IsStoredBy s next draft (D.disk disk.old) (D.disk disk.new)) }
         ensures stays { (h : History) → StandsFor self.old h → ((why : Refusal) × IsErrOf result (ChangeError.Refused why)) ⊎ IsErrOf result ChangeError.Memory → StandsFor self.new h }
@@ -78,10 +78,10 @@ impl Archive {
         };
         self.live = false;
         match write_ready(disk, &mut self.journal, &mut self.shelf, ready) {
-            Ok(report) => {
+            Ok(summary) => {
                 self.entries += 1;
                 self.live = true;
-                Ok(report)
+                Ok(summary)
             }
             Err(_) => Err(ChangeError::Failed),
         }
@@ -95,7 +95,7 @@ fn write_ready<D: Disk>(
     journal: &mut Journal,
     shelf: &mut Shelf,
     ready: Ready,
-) -> Result<PlanReport, Failed>
+) -> Result<Summary, Failed>
     requires live { IsTrue journal.old.live }
     requires fits { journal.old.end + gate_bytes + length ready.frame ≤ 2 ^ 40 }
     requires room { 1 ≤ shelf.old.room }
@@ -103,7 +103,7 @@ fn write_ready<D: Disk>(
     requires taken { HasTaken shelf.old.pages (extents ready.prepared.places ++ extents_all shelf.old.plans) }
     ensures only { D.Disk.only disk.old disk.new }
     ensures failed { OnErr result (Rose (D.disk disk.old).faults (D.disk disk.new).faults) }
-    ensures report { IfOk result (λ r. r ≡ ready.report) }
+    ensures summary { IfOk result (λ r. r ≡ ready.summary) }
     ensures live { OnOk result (IsTrue journal.new.live) }
     ensures end { OnOk result (journal.new.end ≡ journal.old.end + gate_bytes + length ready.frame) }
     ensures reached { OnOk result (journal.new.end ≤ (D.disk disk.new).reach.journal) }
@@ -121,12 +121,12 @@ fn write_ready<D: Disk>(
         stored,
         frame,
         prepared,
-        report,
+        summary,
     } = ready;
     match put_down(disk, journal, shelf.sublists(), &frame, &prepared) {
         Ok(()) => {
             shelf.put(stored, prepared);
-            Ok(report)
+            Ok(summary)
         }
         Err(failed) => {
             shelf.forget(prepared);

@@ -1,2 +1,3 @@
-mod ShelfLemmas
+pub mod ShelfLemmas
 mod ReadyLemmas
+pub mod BadLemmas

@@ -15,18 +15,18 @@ use Rattle.pages_area.proofs.TakenLemmas.{next_extent}
 use Rattle.pages_area.specs.Caches.{Kept, IsHeld, StandsFor}
 use Rattle.pages_area.specs.CacheLaws.{LieIn}
 use Rattle.pages_area.specs.Pieces.{without_pages}
-use Rattle.pages_area.proofs.CacheLawLemmas.{left-in-rest}
 use Rattle.pages_sublists.specs.Caching.{without_all}
 use Rattle.pages_sublists.specs.Gathering.{chosen}
 use Rattle.pages_sublists.specs.Preparing.{extents}
 use Rattle.pages_sublists.specs.Segments.{seconds}
+use Rattle.pages_sublists.proofs.KeptLemmas.{lie_without as rest_lies}
 use Rattle.journal_entries.specs.declared.place.Place.{Place}
 use Rattle.model_archive.specs.declared.stored.StoredPlan.{StoredPlan}
 use Rattle.model_archive.specs.Plans.{extents_of}
 use Rattle.archive_plans.specs.Shelves.{extents_all, IsBadShelf, gates_all}
 
 -- the extents of plans with one more
-extents_push : (live : List StoredPlan) (stored : StoredPlan) → extents_all (live ++ stored ∷ []) ≡ extents_all live ++ extents_of stored.plan
+pub extents_push : (live : List StoredPlan) (stored : StoredPlan) → extents_all (live ++ stored ∷ []) ≡ extents_all live ++ extents_of stored.plan
 extents_push live stored =
     flat_map-append (λ (s : StoredPlan). extents_of s.plan) live (stored ∷ []) ∙ ap (λ (es : List Extent). extents_all live ++ es) (append-nil (extents_of stored.plan))
 
@@ -78,12 +78,7 @@ pub plan_among : (plans : List StoredPlan) (at : ℕ) (s : StoredPlan) (places :
     → (p : ℕ) → IsTaken (extents places) p → IsTaken (extents_all plans) p
 plan_among plans at s places within same is p taken = among_all plans at s p within same (subst (λ (ps : List Place). IsTaken (extents ps) p) is taken)
 
--- once the pages of some extents are given back, what is kept lies in the others
-without_lie : (before es after : List Extent) (cache : List Kept) → LieIn (before ++ (es ++ after)) cache → LieIn (before ++ after) (without_all es cache)
-without_lie before [] after cache lie = lie
-without_lie before (e ∷ es) after cache lie = without_lie before es after (without_pages e cache) (left-in-rest before (es ++ after) e cache lie)
-
--- and stands for Pages as before
+-- once the pages of some extents are given back, what is kept stands for Pages as before
 pub without_stands : (es : List Extent) (cache : List Kept) (pages : List ℕ) → StandsFor cache pages → StandsFor (without_all es cache) pages
 without_stands [] cache pages stands = stands
 without_stands (e ∷ es) cache pages stands = without_stands es (without_pages e cache) pages (All-filter _ (IsHeld pages) cache stands)
@@ -100,7 +95,7 @@ pub lie_without : (live front back : List StoredPlan) (s stored : StoredPlan) (o
 lie_without live front back s stored old cache same is lie =
     let each : StoredPlan → List Extent = λ t. extents_of t.plan in
     let split : extents_all live ≡ extents_all front ++ (extents_of s.plan ++ extents_all back) = ap extents_all same ∙ flat_map-append each front (s ∷ back) in
-    let parts = without_lie (extents_all front) (extents_of s.plan) (extents_all back) cache (subst (λ (es : List Extent). LieIn es cache) split lie) in
+    let parts = rest_lies (extents_all front) (extents_of s.plan) (extents_all back) cache (subst (λ (es : List Extent). LieIn es cache) split lie) in
     let joined = subst (λ (es : List Extent). LieIn es (without_all (extents_of s.plan) cache)) (sym (flat_map-append each front back)) parts in
     let left = subst (λ (ps : List Place). LieIn (extents_all (front ++ back)) (without_all (extents ps) cache)) (sym is) joined in
     lie_behind (front ++ back) stored (without_all (extents old) cache) left

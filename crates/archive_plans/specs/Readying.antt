@@ -15,9 +15,9 @@ use Rattle.pages_sublists.specs.Segments.{seconds}
 use Rattle.plans_kinds.specs.Plans.{plan_space}
 use Rattle.model_archive.specs.declared.refusal.Refusal.{Refusal}
 use Rattle.model_archive.specs.declared.refusal.Refusal.TheVariants as refusals
-use Rattle.model_archive.specs.Steps.{Summary, in_blocks}
+use Rattle.model_archive.specs.declared.summary.Summary.{Summary}
+use Rattle.model_archive.specs.Steps.{in_blocks}
 use Rattle.archive_plans.specs.declared.readying.Draft.{Draft}
-use Rattle.archive_plans.specs.declared.readying.PlanReport.{PlanReport}
 use Rattle.archive_plans.specs.declared.readying.Ready.{Ready}
 
 -- the plan of a draft, with these places
@@ -40,13 +40,9 @@ tells_of draft length_now = record {
   segments = length draft.cuts.items;
   space = plan_space draft.list.items draft.cuts.items draft.horizon.seconds;
   full = length draft.list.items;
-  horizon = draft.horizon.seconds;
+  horizon = draft.horizon;
   cost = draft.cost;
 }
-
--- what a report tells
-abbrev pub summary_of : PlanReport → Summary
-summary_of r = record { length = r.length; segments = r.segments; space = r.space; full = r.full; horizon = r.horizon.seconds; cost = r.cost }
 
 -- What is ready to be stored of a draft: its entry, spelled, for which the journal of this end has room; and the sublists with their places.
 pub record IsReady (draft : Draft) (end count : ℕ) (ready : Ready) : Type 0 where
@@ -56,7 +52,7 @@ pub record IsReady (draft : Draft) (end count : ℕ) (ready : Ready) : Type 0 wh
   pub each : AllZip IsFor ready.prepared.places (bytes_of draft)
   pub framed : ready.frame ≡ plan_spelling ready.stored.plan
   pub fits : end + gate_bytes + length ready.frame ≤ limit_of Journal
-  pub told : summary_of ready.report ≡ tells_of draft (count + 1)
+  pub told : ready.summary ≡ tells_of draft (count + 1)
 
 -- why a draft isn't stored: the pages have no run for a sublist, or the journal has no room for its entry
 abbrev pub IsFull : Draft → List Extent → ℕ → Refusal → Type 0

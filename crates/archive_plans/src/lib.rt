@@ -10,5 +10,5 @@
 mod readying;
 mod shelf;
 
-pub use readying::{Draft, PlanReport, Ready, make_ready};
+pub use readying::{Draft, Ready, make_ready};
 pub use shelf::Shelf;

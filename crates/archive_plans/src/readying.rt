@@ -8,7 +8,7 @@ ghost use Rattle.lists_postings.specs.Lists.{IsList};
 ghost use Rattle.plans_kinds.specs.Plans.{IsGoodPlan, plan_space};
 ghost use Rattle.pages_sublists.specs.Preparing.{extents};
 ghost use Rattle.journal_entries.specs.PlanSpelling.{plan_spelling};
-ghost use Rattle.archive_plans.specs.Readying.{IsReady, IsFull, HasPlaces, plan_with, summary_of, tells_of};
+ghost use Rattle.archive_plans.specs.Readying.{IsReady, IsFull, HasPlaces, plan_with, tells_of};
 
 use crate::shelf::Shelf;
 use archive_entries::{Declined, full_journal};
@@ -16,28 +16,10 @@ use base_commands::Kind;
 use base_types::{Fraction, Key, Posting, Time, Which};
 use journal_entries::{Layout, Listed, Place, PlanEntry, encode_plan};
 use journal_gates::{Frame, GATE_BYTES};
-use model_archive::{Refusal, StoredPlan};
+use model_archive::{Refusal, StoredPlan, Summary};
 use pages_area::TakeError;
 use pages_sublists::Prepared;
 use std::alloc::Global;
-
-/// What is told of a plan that was stored.
-#[derive(Clone, Copy, Debug, PartialEq, Eq)]
-pub struct PlanReport {
-    /// How many entries the archive has now.
-    pub length: u64,
-    /// How many segments the plan has.
-    pub segments: u64,
-    /// The sizes of their sublists added up, in postings.
-    pub space: u64,
-    /// The size of the list up to the horizon, in postings.
-    pub full: u64,
-    /// The horizon, which is the last time.
-    pub horizon: Time,
-    /// What its reads are expected to cost, of a plan under a space bound: the postings read if its times are
-    /// asked for as its load says. None of a plan that keeps to a guarantee.
-    pub cost: Option<u128>,
-}
 
 /// A plan of a word's list up to the last time that is what its kind promises, of which nothing is stored yet.
 #[derive(Drop)]
@@ -56,7 +38,7 @@ pub struct Draft {
     pub cuts: Vec<Time>,
     /// The sizes of the segments' sublists added up, in postings.
     pub space: u64,
-    /// What its reads are expected to cost, as a report tells it.
+    /// What its reads are expected to cost, as a `Summary` tells it.
     pub cost: Option<u128>,
 }
 
@@ -70,7 +52,7 @@ pub struct Ready {
     /// Its sublists, spelled, with their places.
     pub prepared: Prepared,
     /// What will be told of it.
-    pub report: PlanReport,
+    pub summary: Summary,
 }
 
 /// Takes the pages of a draft's sublists and spells its entry, if the journal, which ends there behind so
@@ -107,7 +89,7 @@ pub fn make_ready(
         Err(TakeError::Full) => return Err(Declined::Refused(full_pages())),
         Err(TakeError::Memory) => return Err(Declined::Memory),
     };
-    let report = report_of(&draft, count);
+    let summary = summary_of(&draft, count);
     match spell_entry(alloc, end, draft, prepared.places()) {
         Ok(spelled) => Ok(Ready {
             stored: StoredPlan {
@@ -116,7 +98,7 @@ pub fn make_ready(
             },
             frame: spelled.frame,
             prepared,
-            report,
+            summary,
         }),
         Err(why) => {
             shelf.forget(prepared);
@@ -126,12 +108,12 @@ pub fn make_ready(
 }
 
 /// What is told of a draft, behind so many entries.
-fn report_of(draft: &Draft, count: u64) -> PlanReport
+fn summary_of(draft: &Draft, count: u64) -> Summary
     requires few { count < 2 ^ 40 }
     requires space { draft.now.space ≡ plan_space draft.now.list.items draft.now.cuts.items draft.now.horizon.seconds }
-    ensures { summary_of result ≡ tells_of draft.now (count + 1) }
+    ensures { result ≡ tells_of draft.now (count + 1) }
 {
-    PlanReport {
+    Summary {
         length: count + 1,
         segments: draft.cuts.len() as u64,
         space: draft.space,

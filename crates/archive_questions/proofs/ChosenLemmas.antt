@@ -96,10 +96,7 @@ first_damage h pages from a to b ws words d begins ends same first =
     let W : List (List ℕ) → Type 0 = λ l. IsFirstDamage h pages from to l d in
     subst F begins (subst T ends (subst W same first))
 
--- ---- reads one behind another
-
-pub reads_join : (a b c : DiskState) → OnlyReads a b → OnlyReads b c → OnlyReads a c
-reads_join a b c x y = y ∙ ap (λ (d : DiskState). record d { faults = c.faults; bytes_read = c.bytes_read }) x
+-- ---- over reads
 
 pub reaches_on : (a b : DiskState) (x y : ArchiveState) → OnlyReads a b → IsSameButCache x y → Reaches a.reach x → Reaches b.reach y
 reaches_on a b x y same but_cache within =

@@ -14,6 +14,6 @@ mod tally;
 mod verdicts;
 
 pub use laws::replies_have_bytes;
-pub use page::{REPLY_ROOM, ReplyPage, Summary};
+pub use page::{REPLY_ROOM, ReplyPage};
 pub use showing::show;
 pub use tally::Tally;

@@ -6,7 +6,7 @@ ghost use Rattle.model_archive.specs.Steps.{Accepted, Refused, RefusedIn, Found,
 
 use base_types::{Span, Which};
 use itoa::Buffer;
-use model_archive::Refusal;
+use model_archive::{Refusal, Summary};
 use plans_kinds::{Node, Segment};
 use query_eval::{Row, SpanRow};
 use std::alloc::{AllocError, Global};
@@ -15,23 +15,6 @@ use std::marker::Model;
 /// The bytes that a page has room for at least: more than the longest reply that takes no memory,
 /// and than any line of an answer.
 pub const REPLY_ROOM: usize = 192;
-
-/// What is told of a plan that was stored.
-#[derive(Clone, Copy, Debug, PartialEq, Eq)]
-pub struct Summary {
-    /// How many entries the history has now.
-    pub length: u64,
-    /// How many segments the plan has.
-    pub segments: u64,
-    /// The sizes of their sublists added up, in postings.
-    pub space: u64,
-    /// The size of the list up to the horizon, in postings.
-    pub full: u64,
-    /// The horizon, in seconds since 1970-01-01 UTC.
-    pub horizon: u64,
-    /// What its reads are expected to cost, in postings read, of a plan under a space bound.
-    pub cost: Option<u128>,
-}
 
 /// A page on which one reply at a time is written. The memory for replies of one short line is taken
 /// when it is made; an answer or a text takes more where it is longer than the replies before it.
@@ -154,21 +137,14 @@ impl ReplyPage {
     /// Writes the reply to a command that stored a plan, in place of what the page held. It takes no
     /// memory. Constant cost.
     pub fn planned(&mut self, summary: Summary)
-        ensures { self.new.bytes ≡ reply_text (Planned (record {
-          length = summary.length;
-          segments = summary.segments;
-          space = summary.space;
-          full = summary.full;
-          horizon = summary.horizon;
-          cost = summary.cost;
-        })) }
+        ensures { self.new.bytes ≡ reply_text (Planned summary) }
     {
         self.clear();
         self.put_named(b"plan ", summary.length);
         self.put_named(b" segments ", summary.segments);
         self.put_named(b" space ", summary.space);
         self.put_named(b" full ", summary.full);
-        self.put_named(b" horizon ", summary.horizon);
+        self.put_named(b" horizon ", summary.horizon.seconds);
         self.put_cost(summary.cost);
         self.put(b"\n");
     }

@@ -151,7 +151,7 @@ adds_plan_outcome h plan None list cost costs = (
       segments = length plan.cuts;
       space = plan_space list plan.cuts plan.horizon.seconds;
       full = length list;
-      horizon = plan.horizon.seconds;
+      horizon = plan.horizon;
       cost = cost;
     });
     next = h ++ entries.Planned plan ∷ [];

@@ -4,6 +4,7 @@ use Rattle.std.proofs.lemmas.List.{length-append}
 use Rattle.base_types.specs.declared.fraction.Fraction.{Fraction}
 use Rattle.base_types.specs.declared.posting.Posting.{Posting}
 use Rattle.base_types.specs.declared.time.Time.{Time}
+use Rattle.base_types.proofs.Equal.{same_time}
 use Rattle.plans_partitions.specs.Partitions.{Covers, IsLeast, space}
 use Rattle.text_words.specs.Terms.{one_term}
 use Rattle.journal_entries.specs.declared.entry.Entry.TheVariants as entries
@@ -13,9 +14,10 @@ use Rattle.base_commands.specs.declared.command.Kind.TheVariants.{Guarantee, Uni
 use Rattle.plans_kinds.specs.Plans.{IsLeastPlan, IsGoodPlan, IsCostOf, later, plan_space}
 use Rattle.plans_kinds.proofs.GoodLemmas.{cost_the_same}
 use Rattle.model_archive.specs.declared.refusal.Refusal.{Refusal}
+use Rattle.model_archive.specs.declared.summary.Summary.{Summary}
 use Rattle.model_archive.specs.Histories.{History}
 use Rattle.model_archive.specs.Choices.{SamePlanned}
-use Rattle.model_archive.specs.Steps.{Refused, Planned, Summary, Declines, AddsPlan, StoresPlan, Plans, in_blocks, spelled_key, full_journal}
+use Rattle.model_archive.specs.Steps.{Refused, Planned, Declines, AddsPlan, StoresPlan, Plans, in_blocks, spelled_key, full_journal}
 use Rattle.model_archive.proofs.PlanningLemmas.{one_phrase}
 
 -- two least partitions take the same space
@@ -48,14 +50,14 @@ record IsTold (h : History) (kind : Kind) (list : List Posting) (cuts : List Tim
   long : one.length ≡ length h + 1
   takes : one.space ≡ plan_space list cuts horizon.seconds
   whole : one.full ≡ length list
-  until : one.horizon ≡ horizon.seconds
+  until : one.horizon ≡ horizon
   costs : IsCostOf kind list cuts horizon.seconds one.cost
 
 told : (h : History) (plan : PlanEntry) (refusal : Option Refusal) (list : List Posting) (one : Summary) (next : History) → AddsPlan h plan refusal list (Planned one) next → IsTold h plan.kind list plan.cuts plan.horizon one
 told h plan (Some why) list one next adds = absurd (none_told h why one next adds)
 told h plan None list one next adds =
     let (on, (cost, costs, reply)) = adds in
-    let is : Summary = record { length = length next; segments = length plan.cuts; space = plan_space list plan.cuts plan.horizon.seconds; full = length list; horizon = plan.horizon.seconds; cost = cost } in
+    let is : Summary = record { length = length next; segments = length plan.cuts; space = plan_space list plan.cuts plan.horizon.seconds; full = length list; horizon = plan.horizon; cost = cost } in
     let same : Planned one ≡ Planned is = reply in
     let here : one ≡ is = cc in
     record {
@@ -87,7 +89,7 @@ told_alike h kind factor word list one other next then a b =
     record {
       length = mine.long ∙ sym its.long;
       full = mine.whole ∙ sym its.whole;
-      horizon = mine.until ∙ sym until ∙ sym its.until;
+      horizon = mine.until ∙ same_time a.horizon b.horizon (sym until) ∙ sym its.until;
       cost = cost_the_same kind list factor a.cuts b.cuts a.horizon one.cost other.cost a.good good mine.costs (subst C until its.costs);
       space = λ none. mine.takes ∙ same_good_space kind list factor a.cuts b.cuts a.horizon.seconds one.cost a.good good mine.costs none ∙ ap (λ (n : ℕ). plan_space list b.cuts n) (sym until) ∙ sym its.takes;
     }

@@ -5,7 +5,8 @@ use Rattle.base_commands.specs.declared.command.Item.{Item}
 use Rattle.base_commands.specs.declared.command.Item.TheVariants as items
 use Rattle.plans_kinds.specs.declared.proposal.Node.{Node}
 use Rattle.plans_kinds.specs.declared.proposal.Segment.{Segment}
-use Rattle.model_archive.specs.Steps.{Reply, Proposed, Summary}
+use Rattle.model_archive.specs.declared.summary.Summary.{Summary}
+use Rattle.model_archive.specs.Steps.{Reply, Proposed}
 
 -- the item asks for a plan, to be proposed or to be stored: only such an item may have several outcomes
 abbrev pub IsChoice : Item → Type 0

@@ -10,10 +10,11 @@ use Rattle.query_eval.specs.declared.answer.Row.{Row}
 use Rattle.query_eval.specs.declared.spans.SpanRow.{SpanRow}
 use Rattle.model_archive.specs.declared.refusal.Refusal.{Refusal}
 use Rattle.model_archive.specs.declared.refusal.Refusal.TheVariants as refusals
+use Rattle.model_archive.specs.declared.summary.Summary.{Summary}
 use Rattle.model_archive.specs.declared.verdict.Verdict.{Verdict}
 use Rattle.model_archive.specs.declared.verdict.Verdict.TheVariants.{Sound, Differs, NotLeast, BadText}
 use Rattle.model_archive.specs.Refusals.{number_of}
-use Rattle.model_archive.specs.Steps.{Reply, Accepted, Refused, RefusedIn, Found, Spanned, Version, Proposed, Planned, Verified, Summary}
+use Rattle.model_archive.specs.Steps.{Reply, Accepted, Refused, RefusedIn, Found, Spanned, Version, Proposed, Planned, Verified}
 
 -- the name of a limit in a reply
 abbrev pub which_text : Which → List ℕ
@@ -104,7 +105,7 @@ cost_text (Some cost) = codes " cost " ++ decimal cost
 -- the line of a plan that was stored
 abbrev pub summary_text : Summary → List ℕ
 summary_text s = codes "plan " ++ decimal s.length ++ codes " segments " ++ decimal s.segments ++ codes " space " ++ decimal s.space ++ codes " full " ++ decimal s.full
-    ++ codes " horizon " ++ decimal s.horizon ++ cost_text s.cost ++ 10 ∷ []
+    ++ codes " horizon " ++ decimal s.horizon.seconds ++ cost_text s.cost ++ 10 ∷ []
 
 -- a digit in base 16
 abbrev pub digit_text : ℕ → ℕ

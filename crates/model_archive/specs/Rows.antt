@@ -130,8 +130,8 @@ unfolding plan_spelling
 gates = (refl, refl)
 
 -- the reply to a plan that is stored, and to a word that has none
-plan_texts : (reply_text (Planned (record { length = 5; segments = 3; space = 4; full = 2; horizon = 40; cost = None })) ≡ codes "plan 5 segments 3 space 4 full 2 horizon 40" ++ 10 ∷ [])
-    × (reply_text (Planned (record { length = 5; segments = 1; space = 2; full = 2; horizon = 40; cost = Some 60 })) ≡ codes "plan 5 segments 1 space 2 full 2 horizon 40 cost 60" ++ 10 ∷ [])
+plan_texts : (reply_text (Planned (record { length = 5; segments = 3; space = 4; full = 2; horizon = record { seconds = 40; before_now = lit< tt }; cost = None })) ≡ codes "plan 5 segments 3 space 4 full 2 horizon 40" ++ 10 ∷ [])
+    × (reply_text (Planned (record { length = 5; segments = 1; space = 2; full = 2; horizon = record { seconds = 40; before_now = lit< tt }; cost = Some 60 })) ≡ codes "plan 5 segments 1 space 2 full 2 horizon 40 cost 60" ++ 10 ∷ [])
     × (reply_text (Refused refusals.NoPlan) ≡ codes "no 14 NoPlan" ++ 10 ∷ [])
 unfolding digits
 plan_texts = (refl, refl, refl)

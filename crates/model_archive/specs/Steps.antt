@@ -49,6 +49,7 @@ use Rattle.query_eval.specs.declared.answer.Row.{Row}
 use Rattle.query_eval.specs.declared.spans.SpanRow.{SpanRow}
 use Rattle.model_archive.specs.declared.refusal.Refusal.{Refusal}
 use Rattle.model_archive.specs.declared.refusal.Refusal.TheVariants as refusals
+use Rattle.model_archive.specs.declared.summary.Summary.{Summary}
 use Rattle.model_archive.specs.declared.verdict.Verdict.{Verdict}
 use Rattle.model_archive.specs.Histories.{History, act_refusal, entry_refusal, old_format, long_batch, most_batch, singles, end_of, text_at}
 use Rattle.model_archive.specs.Answers.{IsAnswerAt, IsSpanAnswerAt}
@@ -57,17 +58,6 @@ use Rattle.model_archive.specs.Planning.{OfPhrase, OfTerm, IsListUpTo, last_seco
 use Rattle.model_archive.specs.Plans.{live_extents, plan_of}
 use Rattle.model_archive.specs.Verifying.{Verifies}
 use Rattle.model_archive.specs.Worlds.{World}
-
--- what is told of a plan that is stored: how many entries the history has now, how many segments the plan has, how many postings their sublists
--- have together, how many postings the word's list has up to the horizon, and the horizon in seconds; and of a plan under a space bound, what its
--- reads are expected to cost, in postings read if the times are asked for as its load says
-pub record Summary : Type 0 where
-  pub length : ℕ
-  pub segments : ℕ
-  pub space : ℕ
-  pub full : ℕ
-  pub horizon : ℕ
-  pub cost : Option ℕ
 
 -- what an item is answered
 pub data Reply : Type 0 where
@@ -205,7 +195,7 @@ AddsPlan old plan None list reply new =
       segments = length plan.cuts;
       space = plan_space list plan.cuts plan.horizon.seconds;
       full = length list;
-      horizon = plan.horizon.seconds;
+      horizon = plan.horizon;
       cost = cost;
     })))
 AddsPlan old plan (Some why) list reply new = Declines old why reply new

@@ -13,6 +13,7 @@
 mod laws;
 mod refusal;
 mod stored;
+mod summary;
 mod verdict;
 
 pub use laws::{
@@ -22,4 +23,5 @@ pub use laws::{
 };
 pub use refusal::Refusal;
 pub use stored::StoredPlan;
+pub use summary::Summary;
 pub use verdict::Verdict;

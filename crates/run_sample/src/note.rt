@@ -5,11 +5,10 @@ ghost use Rattle.archive_questions.specs.Endings.{found, unanswered, verified};
 ghost use Rattle.run_sample.specs.Carrying.{Tells, verdict_of};
 
 use crate::error::FillError;
-use archive_changes::PlanReport;
 use archive_check::VerifyError;
 use archive_hand::ChangeError;
 use archive_questions::AskError;
-use model_archive::{Refusal, Verdict};
+use model_archive::{Refusal, Summary, Verdict};
 use query_eval::Answer;
 
 /// What is noted of one command of a sample.
@@ -55,7 +54,7 @@ pub(crate) fn of_change(change: Result<u64, ChangeError>) -> Result<Note, FillEr
 }
 
 /// What is noted of a plan.
-pub(crate) fn of_plan(plan: Result<PlanReport, ChangeError>) -> Result<Note, FillError>
+pub(crate) fn of_plan(plan: Result<Summary, ChangeError>) -> Result<Note, FillError>
     ensures tells { Tells (planned plan) result }
     ensures fault { IsErrOf result FillError.Failed → IsErrOf plan ChangeError.Failed }
     ensures live { OnOk result (IsOk plan ⊎ ((why : Refusal) × IsErrOf plan (ChangeError.Refused why))) }

@@ -14,16 +14,16 @@ ghost use Rattle.run_script.specs.Causes.{IsLeft};
 ghost use Rattle.run_script.specs.Outcomes.{CanGoOn, IsAnswered, Writes, WritesAnswer};
 
 use crate::stop::Halt;
-use archive_changes::{BatchError, PlanReport, batch, delete, mark_format, plan};
+use archive_changes::{BatchError, batch, delete, mark_format, plan};
 use archive_check::VerifyError;
 use archive_entries::{Declined, ReadError};
 use archive_hand::{Archive, ChangeError};
 use archive_questions::{AskError, between, certificate, find, propose, show, top, verify};
-use archive_replies::{ReplyPage, Summary};
+use archive_replies::ReplyPage;
 use base_commands::{Command, Item, MOST_TEXT_BYTES, Text};
 use base_types::{DocId, Time};
 use machine_model::Disk;
-use model_archive::{Refusal, Verdict};
+use model_archive::{Refusal, Summary, Verdict};
 use pages_sublists::Damage;
 use plans_kinds::Proposal;
 use query_eval::{Answer, SpanAnswer};
@@ -195,22 +195,15 @@ fn write_batch(page: &mut ReplyPage, batch: Result<u64, BatchError>) -> Result<(
 }
 
 /// Writes what became of a plan on the page, or halts the run.
-fn write_planned(page: &mut ReplyPage, plan: Result<PlanReport, ChangeError>) -> Result<(), Halt>
+fn write_planned(page: &mut ReplyPage, plan: Result<Summary, ChangeError>) -> Result<(), Halt>
     ensures writes { Writes (planned plan) result page.new.bytes }
     ensures fault { IsErrOf result Halt.Disk → IsErrOf plan ChangeError.Failed }
     ensures undamaged { (d : Damage) → IsErrOf result (Halt.Damaged d) → ⊥ }
     ensures live { OnOk result (IsOk plan ⊎ ((why : Refusal) × IsErrOf plan (ChangeError.Refused why))) }
 {
     match plan {
-        Ok(report) => {
-            page.planned(Summary {
-                length: report.length,
-                segments: report.segments,
-                space: report.space,
-                full: report.full,
-                horizon: report.horizon.seconds,
-                cost: report.cost,
-            });
+        Ok(summary) => {
+            page.planned(summary);
             Ok(())
         }
         Err(error) => write_unchanged(page, error),

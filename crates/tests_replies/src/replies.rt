@@ -1,7 +1,7 @@
 //! Replies as bytes.
-use archive_replies::{ReplyPage, Summary, Tally};
-use base_types::{DocId, Key, Span, Time, Which};
-use model_archive::{Refusal, Verdict};
+use archive_replies::{ReplyPage, Tally};
+use base_types::{DocId, Key, NOW, Span, Time, Which};
+use model_archive::{Refusal, Summary, Verdict};
 use plans_kinds::{Node, Segment};
 use query_eval::{Row, SpanRow};
 use std::alloc::Global;
@@ -176,12 +176,13 @@ fn node(at: u64, pi: u64) -> Node {
 #[test]
 fn stored_plans_are_answered_by_one_line(rt: HostRuntime) {
     let mut page = ReplyPage::new(rt.alloc()).expect(&rt, "memory");
+    let horizon = Time::new(40).expect(&rt, "a time of 40 seconds");
     page.planned(Summary {
         length: 5,
         segments: 3,
         space: 4,
         full: 2,
-        horizon: 40,
+        horizon,
         cost: None,
     });
     assert_eq!(rt;
@@ -193,6 +194,7 @@ fn stored_plans_are_answered_by_one_line(rt: HostRuntime) {
 #[test]
 fn a_plan_under_a_space_bound_is_answered_with_its_cost(rt: HostRuntime) {
     let mut page = ReplyPage::new(rt.alloc()).expect(&rt, "memory");
+    let horizon = Time::new(40).expect(&rt, "a time of 40 seconds");
     for (cost, text) in [
         (60, "plan 5 segments 1 space 2 full 2 horizon 40 cost 60\n"),
         (0, "plan 5 segments 1 space 2 full 2 horizon 40 cost 0\n"),
@@ -206,7 +208,7 @@ fn a_plan_under_a_space_bound_is_answered_with_its_cost(rt: HostRuntime) {
             segments: 1,
             space: 2,
             full: 2,
-            horizon: 40,
+            horizon,
             cost: Some(cost),
         });
         assert_eq!(rt; page.as_bytes(), text.as_bytes());
@@ -216,19 +218,20 @@ fn a_plan_under_a_space_bound_is_answered_with_its_cost(rt: HostRuntime) {
 #[test]
 fn a_new_page_has_room_for_the_greatest_numbers(rt: HostRuntime) {
     let mut page = ReplyPage::new(rt.alloc()).expect(&rt, "memory");
+    let horizon = Time::new(NOW - 1).expect(&rt, "the greatest time");
     page.planned(Summary {
         length: u64::MAX,
         segments: u64::MAX,
         space: u64::MAX,
         full: u64::MAX,
-        horizon: u64::MAX,
+        horizon,
         cost: Some(u128::MAX),
     });
     assert_eq!(rt;
         page.as_bytes(),
-        "plan 18446744073709551615 segments 18446744073709551615 space 18446744073709551615 full 18446744073709551615 horizon 18446744073709551615 cost 340282366920938463463374607431768211455\n".as_bytes()
+        "plan 18446744073709551615 segments 18446744073709551615 space 18446744073709551615 full 18446744073709551615 horizon 1099511627775 cost 340282366920938463463374607431768211455\n".as_bytes()
     );
-    assert_eq!(rt; page.as_bytes().len(), 183);
+    assert_eq!(rt; page.as_bytes().len(), 176);
 }
 
 #[test]

@@ -3,9 +3,9 @@ use Rattle.std.proofs.lemmas.Result.{IfOk-weaker}
 use Rattle.journal_entries.specs.declared.entry.Entry.TheVariants as entries
 use Rattle.base_commands.specs.declared.command.Command.TheVariants as commands
 use Rattle.base_commands.specs.declared.command.Item.TheVariants as items
-use Rattle.model_archive.specs.Steps.{Planned, Plans, Refused, Summary}
+use Rattle.model_archive.specs.declared.summary.Summary.{Summary}
+use Rattle.model_archive.specs.Steps.{Planned, Plans, Refused}
 use Rattle.archive_hand.specs.States.{CacheStands, StandsFor}
-use Rattle.archive_plans.specs.declared.readying.PlanReport.{PlanReport}
 use Rattle.archive_hand.proofs.GiveUpLemmas.{given_up_cached, given_up_never, given_up_refused}
 use Rattle.archive_hand.proofs.ByReadsLemmas.{still_by, stocks_same}
 use Rattle.archive_changes.proofs.PlanLemmas.{plan_by, plans_full, plans_stored, plans_refused}
@@ -21,7 +21,7 @@ returns-in-Ok-clause-refused g c = λ h stands why is.
 pub returns-in-Ok-clause-stores : goal.returns-in-Ok-clause-stores
 returns-in-Ok-clause-stores g c = λ h stands.
     let ens = c.in-Ok.ensures in
-    IfOk-weaker c.store.result _ _ (λ report (plan, (stored, told, then)).
+    IfOk-weaker c.store.result _ _ (λ summary (plan, (stored, told, then)).
     let P : Summary → Type 0 = λ s. Plans h c.args.word.now c.args.kind c.args.factor (Planned s) (h ++ entries.Planned plan ∷ []) in
     (h ++ entries.Planned plan ∷ [], (subst P (sym told) (plans_stored h c.args.word.now c.args.kind c.args.factor c.in-Ok.draft plan ens.term (ens.known h stands) ens.kind ens.factor (ens.drafted h stands) stored), then)))
     (c.store.ensures.stores h stands)
@@ -47,4 +47,4 @@ pub returns-in-Err-clause-by_reads : goal.returns-in-Err-clause-by_reads
 returns-in-Err-clause-by_reads g c = λ tells s in_step.
     unmade_by s (items.Command (commands.Plan c.args.word.now c.args.kind c.args.factor)) c.give_up.result _ _ c.args.archive.now c.give_up.new.self in_step
     (λ why is. let full = returns-in-Err-clause-refused g c s.history in_step.stands why (ap Err is) in (refl, (full.0, stocks_same s c.give_up.new.self (g.D.Disk.disk c.args.disk.now) in_step.live), still_by _ c.args.archive.now c.give_up.new.self s in_step full.1 (given_up_cached c.in-Err.declined c.give_up.result c.args.archive.now c.give_up.new.self (g.D.Disk.disk c.args.disk.now) c.give_up.ensures in_step.cached)))
-    (λ is. given_up_never {T = PlanReport} _ c.in-Err.declined c.give_up.result c.args.archive.now c.give_up.new.self c.give_up.ensures (inr (ap Err is))) (λ is. refl)
+    (λ is. given_up_never {T = Summary} _ c.in-Err.declined c.give_up.result c.args.archive.now c.give_up.new.self c.give_up.ensures (inr (ap Err is))) (λ is. refl)

@@ -12,7 +12,8 @@ use Rattle.lists_index.specs.Indexes.{state_of, Indexes}
 use Rattle.archive_plans.specs.Shelves.{extents_all}
 use Rattle.archive_hand.specs.States.{StandsFor}
 use Rattle.archive_entries.specs.Replaying.{IsReplayed}
-use Rattle.archive_hand.proofs.LoadLemmas.{stands_replayed, bad_archive, bad_shelf, pages_long}
+use Rattle.archive_plans.proofs.BadLemmas.{bad_archive, bad_shelf, pages_long}
+use Rattle.archive_hand.proofs.LoadLemmas.{stands_replayed}
 use Rattle.archive_hand.proofs.loading.archive_of.Given.{Over}
 use Rattle.archive_hand.proofs.loading.archive_of.Goals as goal
 

@@ -8,7 +8,8 @@ use Rattle.archive_hand.specs.Asking.{HasAsked}
 use Rattle.pages_sublists.specs.declared.why.FetchError.{FetchError}
 use Rattle.archive_questions.proofs.CacheLemmas.{asked_joins, but_cache_joins, pieces_more}
 use Rattle.archive_hand.proofs.CacheLemmas.{stands_but_cache}
-use Rattle.archive_questions.proofs.ChosenLemmas.{chosen_more, handed, reaches_on, reads_join}
+use Rattle.machine_model.proofs.MomentLemmas.{reads_join}
+use Rattle.archive_questions.proofs.ChosenLemmas.{chosen_more, handed, reaches_on}
 use Rattle.archive_questions.proofs.choosing.parts_of.Goals as goal
 
 pub returns-in_err-part-clause-fetched : goal.returns-in_err-part-clause-fetched

@@ -8,7 +8,8 @@ use Rattle.model_archive.specs.declared.stored.StoredPlan.{StoredPlan}
 use Rattle.model_archive.proofs.StandsLemmas.{loaded_is_archive}
 use Rattle.archive_plans.specs.Shelves.{extents_all}
 use Rattle.run_audit.specs.declared.opening.Opened.{Opened}
-use Rattle.run_audit.proofs.OpenLemmas.{bad_archive, bad_shelf, pages_long, is_opened}
+use Rattle.archive_plans.proofs.BadLemmas.{bad_archive, bad_shelf, pages_long}
+use Rattle.run_audit.proofs.OpenLemmas.{is_opened}
 use Rattle.run_audit.proofs.opening.opened_by.Goals as goal
 
 pub returns-in_err-replayed-clause-not_archive : goal.returns-in_err-replayed-clause-not_archive

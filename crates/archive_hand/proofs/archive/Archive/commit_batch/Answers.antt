@@ -1,4 +1,4 @@
-use Rattle.std.proofs.Common.{◌≡◌, ◌+◌, ◌++◌, ◌∷◌, [], ℕ, List, All, length, map, is_err, Result, Ok, Err, OnOk, true, false, refl, ap, sym, subst, ◌∙◌, arith, rules}
+use Rattle.std.proofs.Common.{◌≡◌, ◌+◌, ◌++◌, ◌∷◌, [], ℕ, List, All, length, map, is_err, Result, Ok, Err, OnOk, true, false, ap, sym, subst, ◌∙◌, arith, rules}
 use Rattle.machine_model.specs.declared.area.Area.TheVariants.{Journal, Pages}
 use Rattle.base_types.specs.declared.text_place.TextPlace.{TextPlace}
 use Rattle.pages_area.specs.Live.{IsInside}
@@ -6,9 +6,6 @@ use Rattle.lists_versions.specs.declared.change.Change.{Change}
 use Rattle.journal_entries.specs.declared.act.Act.{Act}
 use Rattle.journal_entries.specs.declared.entry.Entry.TheVariants.{Batch}
 use Rattle.journal_gates.specs.Crash.{Appends}
-use Rattle.journal_gates.specs.State.{JournalState}
-use Rattle.journal_gates.specs.declared.error.AppendError.{AppendError}
-use Rattle.journal_gates.specs.declared.error.AppendError.TheVariants as appends
 use Rattle.journal_gates.proofs.InStepLemmas.{step_at}
 use Rattle.lists_index.specs.Indexes.{Indexes, state_of}
 use Rattle.model_archive.specs.Histories.{History, changes}
@@ -16,7 +13,7 @@ use Rattle.archive_entries.specs.Batches.{place_change, text_change, IsNextBatch
 use Rattle.archive_entries.specs.declared.batching.NextAct.{NextAct}
 use Rattle.archive_plans.specs.Shelves.{extents_all}
 use Rattle.archive_hand.specs.States.{ArchiveState, StandsFor, IsSound}
-use Rattle.archive_hand.proofs.AddLemmas.{appends_nowhere, inside_on, pages_nowhere, stands_batch}
+use Rattle.archive_hand.proofs.AddLemmas.{appends_nowhere, end_stays, inside_on, pages_nowhere, stands_batch}
 use Rattle.archive_hand.proofs.CacheLemmas.{cached_on, is_sound, stands_live}
 use Rattle.archive_hand.proofs.archive.Archive.commit_batch.Given.{Over}
 use Rattle.archive_hand.proofs.archive.Archive.commit_batch.Goals as goal
@@ -62,19 +59,14 @@ pub returns-in-Ok-clause-cached : goal.returns-in-Ok-clause-cached
 returns-in-Ok-clause-cached g c = λ tells cached is.
     cached_on c.args.self.now.shelf.cache c.self.inside.shelf.cache (g.D.Disk.disk c.args.disk.now) (g.D.Disk.disk c.append.new.disk) (ap (λ (s : ArchiveState). s.shelf.cache) c.self.view_is) (c.in-Ok.ensures.pages_hold tells) cached
 
--- an append that failed leaves the end
 pub returns-clause-within : goal.returns-clause-within
 returns-clause-within g c =
     let view = ap (λ s. s.end) c.self.view_is in
     let reach = g.met.D.Disk.only_reach c.args.disk.now c.append.new.disk Journal c.append.ensures.only in
     let P : ArchiveState → Type 0 = λ a. All (IsInside (g.D.Disk.disk c.append.new.disk).reach.pages) (extents_all a.shelf.plans) in (
-      omega (arith, end_same c.in-Err.field-0 c.append.new.self c.self.inside.journal (λ is. (c.in-Err.ensures.same (ap Err is)).0) (λ is. c.in-Err.ensures.spent (ap Err is)), view, reach, c.requires.within.0),
+      omega (arith, end_stays c.in-Err.field-0 c.append.new.self c.self.inside.journal (λ is. (c.in-Err.ensures.same (ap Err is)).0) (λ is. c.in-Err.ensures.spent (ap Err is)), view, reach, c.requires.within.0),
       subst P (sym c.self.view_is) (inside_on _ _ _ (g.met.D.Disk.only_reach c.args.disk.now c.append.new.disk Pages c.append.ensures.only) c.requires.within.1),
     )
-  where
-    end_same : (e : AppendError) (new old : JournalState) → (e ≡ appends.Full → new ≡ old) → (e ≡ appends.Failed → new ≡ record old { live = false }) → new.end ≡ old.end
-    end_same appends.Full new old full failed = ap (λ (s : JournalState). s.end) (full refl)
-    end_same appends.Failed new old full failed = ap (λ (s : JournalState). s.end) (failed refl)
 
 -- an index that took the acts in tells of them
 on_ok_is : {T E : Type 0} (P : Type 0) (r : Result T E) → is_err r ≡ false → OnOk r P → P

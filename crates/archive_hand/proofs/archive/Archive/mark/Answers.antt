@@ -1,10 +1,7 @@
-use Rattle.std.proofs.Common.{◌≡◌, ◌++◌, ◌∷◌, [], ℕ, List, All, length, Err, false, refl, ap, sym, subst, ◌∙◌, arith, rules}
+use Rattle.std.proofs.Common.{◌≡◌, ◌++◌, ◌∷◌, [], ℕ, List, All, length, Err, false, ap, sym, subst, ◌∙◌, arith, rules}
 use Rattle.machine_model.specs.declared.area.Area.TheVariants.{Journal, Pages}
 use Rattle.pages_area.specs.Live.{IsInside}
 use Rattle.journal_gates.specs.Crash.{Appends}
-use Rattle.journal_gates.specs.State.{JournalState}
-use Rattle.journal_gates.specs.declared.error.AppendError.{AppendError}
-use Rattle.journal_gates.specs.declared.error.AppendError.TheVariants as appends
 use Rattle.journal_gates.proofs.InStepLemmas.{step_at}
 use Rattle.journal_entries.specs.Spelling.{spelling}
 use Rattle.journal_entries.specs.declared.entry.Entry.TheVariants.{Format}
@@ -12,7 +9,7 @@ use Rattle.model_archive.specs.Histories.{History}
 use Rattle.archive_plans.specs.Shelves.{extents_all}
 use Rattle.archive_hand.specs.States.{ArchiveState, StandsFor, IsSound}
 use Rattle.archive_hand.proofs.CacheLemmas.{is_sound, stands_live}
-use Rattle.archive_hand.proofs.AddLemmas.{appends_nowhere, inside_on, pages_nowhere, stands_marked, unrefused, with_mark}
+use Rattle.archive_hand.proofs.AddLemmas.{appends_nowhere, end_stays, inside_on, pages_nowhere, stands_marked, unrefused, with_mark}
 use Rattle.archive_hand.proofs.archive.Archive.mark.Given.{Over}
 use Rattle.archive_hand.proofs.archive.Archive.mark.Goals as goal
 
@@ -66,16 +63,11 @@ invariant_of-self-in-Ok g c =
 pub returns-in-Ok-clause-stands : goal.returns-in-Ok-clause-stands
 returns-in-Ok-clause-stands g c = λ h now. (rw (← c.self.view_is) at (marks g c h now), omega (arith, now.length_is, ap (λ (s : ArchiveState). s.length) c.self.view_is))
 
--- an append that failed leaves the end
 pub returns-clause-within : goal.returns-clause-within
 returns-clause-within g c =
     let view = ap (λ s. s.end) c.self.view_is in
     let reach = g.met.D.Disk.only_reach c.args.disk.now c.append.new.disk Journal c.append.ensures.only in
     let P : ArchiveState → Type 0 = λ a. All (IsInside (g.D.Disk.disk c.append.new.disk).reach.pages) (extents_all a.shelf.plans) in (
-      omega (arith, end_same c.in-Err.field-0 c.append.new.self c.self.inside.journal (λ is. (c.in-Err.ensures.same (ap Err is)).0) (λ is. c.in-Err.ensures.spent (ap Err is)), view, reach, c.requires.within.0),
+      omega (arith, end_stays c.in-Err.field-0 c.append.new.self c.self.inside.journal (λ is. (c.in-Err.ensures.same (ap Err is)).0) (λ is. c.in-Err.ensures.spent (ap Err is)), view, reach, c.requires.within.0),
       subst P (sym c.self.view_is) (inside_on _ _ _ (g.met.D.Disk.only_reach c.args.disk.now c.append.new.disk Pages c.append.ensures.only) c.requires.within.1),
     )
-  where
-    end_same : (e : AppendError) (new old : JournalState) → (e ≡ appends.Full → new ≡ old) → (e ≡ appends.Failed → new ≡ record old { live = false }) → new.end ≡ old.end
-    end_same appends.Full new old full failed = ap (λ (s : JournalState). s.end) (full refl)
-    end_same appends.Failed new old full failed = ap (λ (s : JournalState). s.end) (failed refl)

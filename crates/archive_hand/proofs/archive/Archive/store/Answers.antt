@@ -11,7 +11,7 @@ use Rattle.archive_hand.specs.Adding.{HasSameShelf}
 use Rattle.model_archive.specs.Stands.{bodies_of}
 use Rattle.archive_hand.specs.States.{ArchiveState, StandsFor, IsSound, AreInStepBy, with_entry}
 use Rattle.archive_plans.specs.Shelves.{extents_all}
-use Rattle.archive_plans.specs.Readying.{IsFull, summary_of, tells_of}
+use Rattle.archive_plans.specs.Readying.{IsFull, tells_of}
 use Rattle.archive_hand.proofs.AddLemmas.{bodies_more, inside_on}
 use Rattle.archive_hand.proofs.GiveUpLemmas.{given_up_cached, given_up_refused}
 use Rattle.archive_hand.proofs.ByReadsLemmas.{all_same, same_as}
@@ -68,7 +68,7 @@ returns-in-Ok-write_ready-clause-stores g c = λ h now.
       r.stored.plan,
       (
         ready_stored h c.args.draft c.end.result c.self.inside.entries r (c.end.ensures.end ∙ stands.end_is) c.in-Ok.ensures.ready (c.in-Ok.ensures.placed _ stands.pages_are),
-        ap summary_of c.in-Ok-write_ready.ensures.report ∙ c.in-Ok.ensures.ready.told ∙ ap (λ (n : ℕ). tells_of c.args.draft (n + 1)) stands.length_is,
+        c.in-Ok-write_ready.ensures.summary ∙ c.in-Ok.ensures.ready.told ∙ ap (λ (n : ℕ). tells_of c.args.draft (n + 1)) stands.length_is,
         planned g c h now,
       ),
     )
@@ -124,7 +124,7 @@ returns-in-Ok-write_ready-clause-puts g c = λ tells s now.
           stocks = there.stocks;
           leads = there.leads;
         },
-        ap summary_of c.in-Ok-write_ready.ensures.report ∙ ready.told ∙ ap (λ (n : ℕ). tells_of c.args.draft (n + 1)) in_step.stands.length_is,
+        c.in-Ok-write_ready.ensures.summary ∙ ready.told ∙ ap (λ (n : ℕ). tells_of c.args.draft (n + 1)) in_step.stands.length_is,
         record {
           stands = planned g c h now.stands;
           journal = rw (← bodies_more h (entries.Planned plan) r.frame ready.framed) (c.in-Ok-write_ready.ensures.entered tells (bodies_of h) in_step.journal);
