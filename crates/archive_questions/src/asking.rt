@@ -81,7 +81,14 @@ pub fn top<D: Disk>(
     ensures by_reads { D.disk_tells → (s : Store) → AreInStepBy (D.disk disk.old) archive.old s →
         TakesBy s (items.Command (commands.Top count at expr.now)) (found result) (D.disk disk.old) (D.disk disk.new) archive.new }
 {
-    ask(alloc, disk, archive, at, expr, Wanted::First(count.number() as usize))
+    ask(
+        alloc,
+        disk,
+        archive,
+        at,
+        expr,
+        Wanted::First(count.number() as usize),
+    )
 }
 
 /// The rows that are asked for of what a query finds.

@@ -3,7 +3,7 @@
 //!
 //! A row is a test of one of the crates above, and says what it wants. The rig tries it: `expect_rows`,
 //! `expect_on`, `expect_behind` and `expect_in_order` run scripts, `expect_runs` compares the journal behind them too, `expect_damaged` wants them
-//! to end at a damaged sublist, `expect_changes` makes changes of an open archive, and `expect_moments` and
+//! to end at a damaged sublist, `expect_check` and `expect_told` check a disk, `expect_changes` makes changes of an open archive, and `expect_moments` and
 //! `expect_shown` load images that a stop may leave. What comes otherwise is a `RowError` that says where. Each
 //! run is held to have had its memory, so a program that always gave up for want of it would pass no row.
 //! Journals with plans and their sublists are spelled here by the formats alone (`journals`, `sublists`).
@@ -11,6 +11,7 @@
 
 mod batches;
 mod changes;
+mod checks;
 mod damages;
 mod disks;
 mod error;
@@ -23,36 +24,111 @@ mod scripts;
 mod stops;
 mod sublists;
 
-pub use batches::{batched, foreign_batches, long_batch, put_arrival};
-pub use changes::{Change, expect_change, expect_changes, made, refused, three_changes};
-pub use damages::{Damaged, expect_damaged, expect_line};
-pub use disks::{
-    FIRST_CERTIFICATE, FIRST_PLAN, FOUR_CHANGES, GAP_CHANGES, disk_after, disk_after_all,
-    disk_with, disk_with_bytes, expect_behind, expect_entry, expect_held, expect_in_order,
-    expect_kept, expect_left, expect_on, expect_same, expect_status, first_disk, flat_disk,
-    machine_after, new_disk, put_byte,
-};
+pub use batches::batched;
+pub use batches::foreign_batches;
+pub use batches::long_batch;
+pub use batches::put_arrival;
+pub use changes::Change;
+pub use changes::expect_change;
+pub use changes::expect_changes;
+pub use changes::made;
+pub use changes::refused;
+pub use changes::three_changes;
+pub use checks::expect_check;
+pub use checks::expect_planned;
+pub use checks::expect_told;
+pub use checks::verify;
+pub use damages::Damaged;
+pub use damages::expect_damaged;
+pub use damages::expect_line;
+pub use disks::FIRST_CERTIFICATE;
+pub use disks::FIRST_PLAN;
+pub use disks::FOUR_CHANGES;
+pub use disks::GAP_CHANGES;
+pub use disks::disk_after;
+pub use disks::disk_after_all;
+pub use disks::disk_with;
+pub use disks::disk_with_bytes;
+pub use disks::expect_behind;
+pub use disks::expect_entry;
+pub use disks::expect_held;
+pub use disks::expect_in_order;
+pub use disks::expect_kept;
+pub use disks::expect_left;
+pub use disks::expect_on;
+pub use disks::expect_same;
+pub use disks::expect_status;
+pub use disks::first_disk;
+pub use disks::flat_disk;
+pub use disks::machine_after;
+pub use disks::new_disk;
+pub use disks::put_byte;
 pub use error::RowError;
-pub use journals::{
-    BLOCKS, FLAT, FOUR_END, FOUR_RECORDS, GAP_RECORDS, GUARANTEE, Plan, SINCE_30, Segment, UNIFORM,
-    first_segments, flat_segments, gap_segments, journal_of, pages_of, plan_of_v, plan_record,
-    record_of, segment_at,
-};
-pub use lives::{many_arrivals, many_lives, put_lines};
-pub use machines::{
-    copy_image, join, load_entries, load_image, machine_on, make_machine, read_image, read_journal,
-    run_on, run_with,
-};
-pub use rows::{Row, expect_end, expect_replies, expect_rows};
-pub use runs::{Run, expect_counts, expect_in_pieces, expect_run, expect_runs};
-pub use scripts::{
-    BATCHED_JOURNAL, FIRST_JOURNAL, FIRST_SCRIPT, MARKED_JOURNAL, MIXED_ENDS, MIXED_JOURNAL,
-    MIXED_REPLIES, MIXED_SCRIPT, NEW_JOURNAL,
-};
-pub use stops::{
-    TAILS, expect_entries, expect_moments, expect_shown, pick_entries, pick_image, whole_images,
-};
-pub use sublists::{
-    CLIPPED_LIFE_OF_1, CLIPPED_LIVES, FIRST_LIFE, FLAT_LIFE, FLAT_LIVES, LIFE_OF_1, LIFE_OF_3,
-    LIVES_OF_1_AND_2, NOTHING, SECOND_LIFE, Sublist,
-};
+pub use journals::BLOCKS;
+pub use journals::FLAT;
+pub use journals::FOUR_END;
+pub use journals::FOUR_RECORDS;
+pub use journals::GAP_RECORDS;
+pub use journals::GUARANTEE;
+pub use journals::Plan;
+pub use journals::SINCE_30;
+pub use journals::Segment;
+pub use journals::UNIFORM;
+pub use journals::first_segments;
+pub use journals::flat_segments;
+pub use journals::gap_segments;
+pub use journals::journal_of;
+pub use journals::pages_of;
+pub use journals::plan_of_v;
+pub use journals::plan_record;
+pub use journals::record_of;
+pub use journals::segment_at;
+pub use lives::many_arrivals;
+pub use lives::many_lives;
+pub use lives::put_lines;
+pub use machines::copy_image;
+pub use machines::join;
+pub use machines::load_entries;
+pub use machines::load_image;
+pub use machines::machine_on;
+pub use machines::make_machine;
+pub use machines::read_image;
+pub use machines::read_journal;
+pub use machines::run_on;
+pub use machines::run_with;
+pub use rows::Row;
+pub use rows::expect_end;
+pub use rows::expect_replies;
+pub use rows::expect_rows;
+pub use runs::Run;
+pub use runs::expect_counts;
+pub use runs::expect_in_pieces;
+pub use runs::expect_run;
+pub use runs::expect_runs;
+pub use scripts::BATCHED_JOURNAL;
+pub use scripts::FIRST_JOURNAL;
+pub use scripts::FIRST_SCRIPT;
+pub use scripts::MARKED_JOURNAL;
+pub use scripts::MIXED_ENDS;
+pub use scripts::MIXED_JOURNAL;
+pub use scripts::MIXED_REPLIES;
+pub use scripts::MIXED_SCRIPT;
+pub use scripts::NEW_JOURNAL;
+pub use stops::TAILS;
+pub use stops::expect_entries;
+pub use stops::expect_moments;
+pub use stops::expect_shown;
+pub use stops::pick_entries;
+pub use stops::pick_image;
+pub use stops::whole_images;
+pub use sublists::CLIPPED_LIFE_OF_1;
+pub use sublists::CLIPPED_LIVES;
+pub use sublists::FIRST_LIFE;
+pub use sublists::FLAT_LIFE;
+pub use sublists::FLAT_LIVES;
+pub use sublists::LIFE_OF_1;
+pub use sublists::LIFE_OF_3;
+pub use sublists::LIVES_OF_1_AND_2;
+pub use sublists::NOTHING;
+pub use sublists::SECOND_LIFE;
+pub use sublists::Sublist;

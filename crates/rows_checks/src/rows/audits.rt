@@ -1,12 +1,11 @@
 //! Audits, which read alone: what they tell of a disk, and that they leave it as it is.
-use crate::rows::disks::expect_check;
 use crate::rows::journals::two_words_journal;
 use machine_mem::{CallKind, Fault, MemMachine};
 use machine_model::{Area, Image};
 use rows_rig::{
-    FIRST_LIFE, Plan, RowError, UNIFORM, copy_image, disk_with, disk_with_bytes, expect_replies,
-    expect_same, first_disk, first_segments, machine_on, pages_of, plan_of_v, read_image,
-    segment_at,
+    FIRST_LIFE, Plan, RowError, UNIFORM, copy_image, disk_with, disk_with_bytes, expect_check,
+    expect_replies, expect_same, first_disk, first_segments, machine_on, pages_of, plan_of_v,
+    read_image, segment_at,
 };
 use run_audit::{AuditStatus, audit};
 use std::alloc::Global;

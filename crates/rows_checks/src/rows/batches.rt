@@ -1,11 +1,10 @@
 //! Batches in archives that are checked: by `verify`, by an audit, and where a load refuses them.
 use crate::rows::audits::{Audited, expect_audit, expect_audits};
-use crate::rows::disks::expect_told;
 use machine_model::Image;
 use rows_rig::{
     FIRST_PLAN, FOUR_CHANGES, Plan, Row, RowError, batched, disk_after, disk_after_all,
-    expect_entry, expect_in_order, expect_status, first_segments, foreign_batches, journal_of,
-    long_batch, new_disk, pages_of, plan_of_v, plan_record,
+    expect_entry, expect_in_order, expect_status, expect_told, first_segments, foreign_batches,
+    journal_of, long_batch, new_disk, pages_of, plan_of_v, plan_record,
 };
 use run_audit::AuditStatus;
 use run_script::Status;

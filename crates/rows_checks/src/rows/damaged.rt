@@ -1,13 +1,12 @@
 //! Sublists that aren't what the entries of their plans say, and the run's end where one is read.
-use crate::rows::disks::expect_planned;
 use machine_mem::MemMachine;
 use machine_model::Image;
 use pages_sublists::{Damage, Why};
 use rows_rig::{
     CLIPPED_LIVES, Damaged, FIRST_CERTIFICATE, FIRST_LIFE, GAP_RECORDS, LIFE_OF_1, LIFE_OF_3,
     NOTHING, Row, RowError, Segment, Sublist, disk_with, disk_with_bytes, expect_damaged,
-    expect_on, first_disk, first_segments, journal_of, machine_on, pages_of, plan_of_v,
-    plan_record, run_on, segment_at,
+    expect_on, expect_planned, first_disk, first_segments, journal_of, machine_on, pages_of,
+    plan_of_v, plan_record, run_on, segment_at,
 };
 use run_script::Status;
 use std::alloc::Global;

@@ -1,6 +1,5 @@
 //! Flat sublists are checked too, by the 24 bytes of each posting.
-use crate::rows::disks::expect_told;
-use rows_rig::{RowError, flat_disk};
+use rows_rig::{RowError, expect_told, flat_disk};
 
 #[test]
 fn flat_sublists_are_checked_by_their_layout(rt: HostRuntime) -> Result<(), RowError> {

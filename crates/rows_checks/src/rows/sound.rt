@@ -1,6 +1,8 @@
 //! Archives whose plans are as they should be.
-use crate::rows::disks::{expect_check, verify};
-use rows_rig::{FIRST_PLAN, FOUR_CHANGES, Row, RowError, expect_in_order, expect_rows, new_disk};
+use rows_rig::{
+    FIRST_PLAN, FOUR_CHANGES, Row, RowError, expect_check, expect_in_order, expect_rows, new_disk,
+    verify,
+};
 
 #[test]
 fn without_plans_there_is_nothing_to_check(rt: HostRuntime) -> Result<(), RowError> {

@@ -1,7 +1,6 @@
 //! A page with forty versions and two hundred notes, as a collection may have them: plans of twelve words,
 //! questions by them, and the check.
-use crate::rows::disks::expect_check;
-use rows_rig::{Row, RowError, disk_after, new_disk, put_lines};
+use rows_rig::{Row, RowError, disk_after, expect_check, new_disk, put_lines};
 use std::alloc::{AllocError, Global};
 
 /// Seconds of a day.

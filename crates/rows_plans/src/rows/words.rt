@@ -1,6 +1,5 @@
 //! Archives with plans of several words: words come in the order in which the texts have them first.
-use crate::rows::disks::expect_told;
-use rows_rig::{Row, RowError, disk_after, new_disk};
+use rows_rig::{Row, RowError, disk_after, expect_told, new_disk};
 
 /// The texts have `b` first.
 const B_AND_A: Row<'static> = Row {

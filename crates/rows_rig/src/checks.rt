@@ -1,14 +1,16 @@
 //! What a check tells of a disk with other bytes in its Pages, and what is answered on a disk with a plan that
 //! is spelled here.
+use crate::disks::{disk_with, disk_with_bytes, expect_on};
+use crate::error::RowError;
+use crate::journals::Plan;
+use crate::machines::machine_on;
+use crate::rows::{Row, expect_end};
 use machine_model::Image;
-use rows_rig::{
-    Plan, Row, RowError, disk_with, disk_with_bytes, expect_end, expect_on, machine_on,
-};
 use run_script::Status;
 use std::alloc::Global;
 
 /// A check and what it tells.
-pub(crate) fn verify(told: &[u8]) -> Row<'_> {
+pub fn verify(told: &[u8]) -> Row<'_> {
     Row {
         script: b"verify\n",
         replies: told,
@@ -16,19 +18,14 @@ pub(crate) fn verify(told: &[u8]) -> Row<'_> {
 }
 
 /// A check of a disk tells this. In its table the disk is this row, counted from 0.
-pub(crate) fn expect_check(
-    alloc: Global,
-    disk: Image,
-    row: usize,
-    told: &[u8],
-) -> Result<(), RowError> {
+pub fn expect_check(alloc: Global, disk: Image, row: usize, told: &[u8]) -> Result<(), RowError> {
     let mut machine = machine_on(alloc, b"verify\n", disk, &[])?;
     expect_end(alloc, &mut machine, row, Status::Done, told)
 }
 
 /// With these bytes in its Pages, each with its place, a check of the disk tells this; the disk is the same for
 /// each row.
-pub(crate) fn expect_told(
+pub fn expect_told(
     alloc: Global,
     disk: &Image,
     rows: &[(&[(usize, u8)], &[u8])],
@@ -41,7 +38,7 @@ pub(crate) fn expect_told(
 }
 
 /// On a disk with the four changes and a plan a script has its replies.
-pub(crate) fn expect_planned(alloc: Global, rows: &[(Plan<'_>, Row<'_>)]) -> Result<(), RowError> {
+pub fn expect_planned(alloc: Global, rows: &[(Plan<'_>, Row<'_>)]) -> Result<(), RowError> {
     for (plan, row) in rows {
         let disk = disk_with(alloc, plan)?;
         expect_on(alloc, &disk, &[*row])?;

@@ -1,8 +1,7 @@
 //! Plans that take more space than they have to.
-use crate::rows::disks::{expect_check, expect_planned, verify};
 use rows_rig::{
     LIFE_OF_1, LIVES_OF_1_AND_2, Plan, Row, RowError, UNIFORM, disk_with, disk_with_bytes,
-    first_segments, plan_of_v, segment_at,
+    expect_check, expect_planned, first_segments, plan_of_v, segment_at, verify,
 };
 
 /// The certificate shows the cuts that are stored, their space, and the least spaces beside them.
