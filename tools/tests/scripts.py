@@ -49,7 +49,7 @@ NO_COMMANDS = [
     b"find", b"find 10", b"find 10 \xc3\x28", b"between 5 5 red", b"between 7 3 red", b"between 1 2", b"plan", b"plan red",
     b"plan red guarantee", b"plan red space 2/1", b"plan red space 2/1 since", b"plan red space 2/1 uniform 3", b"plan \xff guarantee 2/1",
     b"propose red", b"propose red space 2/1 uniform", b"certificate", b"certificate red blue", b"verify now", b"\r", b"\0", b"\xff\xfe",
-    b"begin red guarantee 2/1", b"format", b"format 02", b"top 3 10 red", b"best 3 10 red", b"approx red 1/2", b"rough 1/2 10 red",
+    b"begin red guarantee 2/1", b"format", b"format 02", b"top 0 10 red", b"top 1000001 10 red", b"top 3 10", b"top 3.0 10 red", b"best 3 10 red", b"approx red 1/2", b"rough 1/2 10 red",
     b"share 2/1 red blue", b"batch", b"batch 0", b"batch 1001", b"batch x", b"batch 1 2", b"batch -1", b"q" * 4_096,
 ]  # fmt: skip
 BROKEN = [b"arrive\n", b"arrive 1 2\n", b"arrive 1 x 3\nred\n", b"arrive 1 2 3 4\n", b"  arrive 1 1969-01-01 0\n\n", b"r" * 4_097]
@@ -152,7 +152,8 @@ class Writer:
         if kind < 44:
             return self.batch()
         if kind < 56:
-            return b"find %b %b" % (self.asked_time(), self.query())
+            asked = self.asked_time(), self.query()
+            return b"top %b %b %b" % (self.chance.choice([b"1", b"2", b"3", b"007", b"1000000"]), *asked) if self.is_one_in(4) else b"find %b %b" % asked
         if kind < 64:
             return b"between %b %b %b" % (*sorted([self.asked_time(), self.asked_time()], key=_in_order), self.query())
         if kind < 69:

@@ -79,7 +79,8 @@ class History:
         version = self._at(doc, time)
         return version.text if version else None
 
-    def find(self, time: int, expr: str) -> list[str]:
+    def find(self, time: int, expr: str, count: int | None = None) -> list[str]:
+        """The rows that match, or the first so many of them."""
         query = self._query(expr)
         rows = []
         for doc in self._versions:
@@ -87,7 +88,8 @@ class History:
             if version and version.text is not None and query.matches(version.counts.__getitem__):
                 rows.append((-query.score(version.counts.__getitem__), doc))
         read = sum(self._read_at(word, time) for word in query.words)
-        return [*(f"hit {doc} {-score}" for score, doc in sorted(rows)), f"end {len(rows)} read {read}"]
+        rows = sorted(rows)[:count]
+        return [*(f"hit {doc} {-score}" for score, doc in rows), f"end {len(rows)} read {read}"]
 
     def between(self, start: int, end: int, expr: str) -> list[str]:
         query = self._query(expr)

@@ -12,7 +12,7 @@ from .base import FOREVER, MOST_BATCH, MOST_BYTES, MOST_DOCUMENTS, MOST_TEXT, MO
 from .base import Broken, Differs, NoCommand, NotArchive, Refused
 from .journal import Batch, Change, Mark, Place, Plan, read_entry, read_journal, spell_journal, sublist
 from .plans import GUARANTEE, SINCE, UNIFORM, Line, Posting, stretches, test_segments, test_width, told
-from .script import Item, document_of, factor_of, items, query_behind, time_of
+from .script import Item, count_of, document_of, factor_of, items, query_behind, time_of
 from .words import Query, keys, one_key
 
 
@@ -156,6 +156,8 @@ class Archive:
                 return self._certificate(word.decode())
             case [b"find", time, _, *_]:
                 return self._find(time_of([time]), query_behind(item.line, 2))
+            case [b"top", count, time, _, *_]:
+                return self._top(count_of(count), time_of([time]), query_behind(item.line, 3))
             case [b"between", start, end, _, *_] if time_of([start]) < time_of([end]):
                 return self._between(time_of([start]), time_of([end]), query_behind(item.line, 3))
             case [b"show", document, time]:
@@ -267,10 +269,16 @@ class Archive:
         return count
 
     def _find(self, time: int, asked: bytes) -> list[str]:
-        query = Query(asked)
+        return self._found(time, Query(asked), len(self.documents))
+
+    def _top(self, count: int, time: int, asked: bytes) -> list[str]:
+        return self._found(time, Query(asked), count)
+
+    def _found(self, time: int, query: Query, most: int) -> list[str]:
+        """So many rows at most of what a query finds at a time."""
         scores = {document: query.score(self._alive(document, time).counts) for document in self.documents}
         rows = sorted((-score, document) for document, score in scores.items() if score is not None)
-        hits = [f"hit {document} {-score}" for score, document in rows]
+        hits = [f"hit {document} {-score}" for score, document in rows[:most]]
         return [*hits, f"end {len(hits)} read {self._read(query, time, time + 1)}"]
 
     def _between(self, start: int, end: int, asked: bytes) -> list[str]:

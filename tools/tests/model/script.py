@@ -7,7 +7,7 @@ from dataclasses import dataclass
 from datetime import date
 from typing import Iterator
 
-from .base import FOREVER, MOST_ACTS, MOST_LINE, Broken, NoCommand
+from .base import FOREVER, MOST_ACTS, MOST_LINE, MOST_TOP_ROWS, Broken, NoCommand
 
 
 @dataclass(frozen=True)
@@ -79,6 +79,14 @@ def number_of(words: list[bytes], limit: int) -> int:
     if len(words) != 1 or not words[0].isdigit() or int(words[0]) >= limit:
         raise NoCommand
     return int(words[0])
+
+
+def count_of(word: bytes) -> int:
+    """How many rows are asked for."""
+    count = number_of([word], MOST_TOP_ROWS + 1)
+    if count == 0:
+        raise NoCommand
+    return count
 
 
 def document_of(words: list[bytes]) -> int:
