@@ -1,6 +1,7 @@
 """The programs that benches run: tt_archive, C++ ones beside it, and small ones over copies of the crates."""
-import os, re, shlex, shutil, subprocess, sys, threading, time
+import os, re, resource, shlex, shutil, subprocess, sys, threading, time
 from pathlib import Path
+from typing import NamedTuple
 
 TOP = Path(__file__).resolve().parent.parent
 #: A line that is no command, and its reply, which shows where the replies to those before it end.
@@ -60,10 +61,24 @@ def run(command, folder, script=b""):
     return spent, done.stdout, done.stderr
 
 
+class Load(NamedTuple):
+    """The seconds that a load takes, and of the processor's time, and what the program says beside."""
+
+    seconds: float
+    processor: float
+    told: bytes
+
+
 def loads(command, folder, turns=3):
-    """The least time of some runs that load and end, and what that run says beside."""
-    spent, _, told = min(run(command, folder) for _ in range(turns))
-    return spent, told
+    """The least of some runs that load and end."""
+    found = []
+    for _ in range(turns):
+        before = resource.getrusage(resource.RUSAGE_CHILDREN)
+        spent, _, told = run(command, folder)
+        after = resource.getrusage(resource.RUSAGE_CHILDREN)
+        found.append(Load(spent, after.ru_utime + after.ru_stime - before.ru_utime - before.ru_stime, told))
+    least = min(found)
+    return least._replace(processor=min(it.processor for it in found))
 
 
 class Asked:
