@@ -99,6 +99,13 @@ fn the_texts_of_a_batch_have_at_most_16777216_bytes(rt: HostRuntime) -> Result<(
     expect_run(alloc, 0, &run)
 }
 
+/// Without the mark that is told first, and with it that the texts are too long.
+fn expect_long(alloc: Global, script: &[u8]) -> Result<(), RowError> {
+    let unmarked = Run::kept(FIRST_JOURNAL, script, b"no 18 OldFormat\n");
+    let marked = Run::kept(MARKED_JOURNAL, script, b"no 17 BatchTooLong 16777216\n");
+    expect_runs(alloc, &[unmarked, marked])
+}
+
 // That they are too long comes behind the mark, and before the line and the item.
 #[test]
 fn texts_that_are_too_long_come_before_the_line(rt: HostRuntime) -> Result<(), RowError> {
@@ -112,16 +119,8 @@ fn texts_that_are_too_long_come_before_the_line(rt: HostRuntime) -> Result<(), R
             b"\n",
         ],
     )?;
-    expect_run(
-        alloc,
-        0,
-        &Run::kept(FIRST_JOURNAL, &script, b"no 18 OldFormat\n"),
-    )?;
-    expect_run(
-        alloc,
-        1,
-        &Run::kept(MARKED_JOURNAL, &script, b"no 17 BatchTooLong 16777216\n"),
-    )
+    expect_long(alloc, &script)?;
+    Ok(())
 }
 
 // Together they are within the limit.
