@@ -18,14 +18,17 @@ use Rattle.model_archive.specs.Histories.{History, most_batch, old_format}
 use Rattle.model_archive.specs.Steps.{Cause, act_of, batch_cause}
 
 -- what an open archive says of an entry that was to be added, for the history that it stood for
-pub record Adds (history : History) (entry : Entry) (refusal : Option Refusal) (result : Result ℕ ChangeError) (new : ArchiveState) : Type 0 where
+pub record Adds (history : History) (entry : Entry) (refusal : Option Refusal) (result : Result ℕ ChangeError)
+    (new : ArchiveState) : Type 0 where
   pub refused : (why : Refusal) → result ≡ Err (changes.Refused why) → refusal ≡ Some why
   pub allowed : IsOk result ⊎ (result ≡ Err changes.Failed) → refusal ≡ None
   pub stands : IfOk result (λ n. StandsFor new (history ++ entry ∷ []) × (n ≡ length history + 1))
 
 -- the same of one that is refused for a cause, as a batch is
-pub record AddsAll (history : History) (entry : Entry) (cause : Option Cause) (result : Result ℕ BatchError) (new : ArchiveState) : Type 0 where
-  pub refused : (why : Refusal) (index : Option ℕ) → result ≡ Err (batches.Refused why index) → cause ≡ Some (record { why = why; index = index })
+pub record AddsAll (history : History) (entry : Entry) (cause : Option Cause) (result : Result ℕ BatchError)
+    (new : ArchiveState) : Type 0 where
+  pub refused : (why : Refusal) (index : Option ℕ) → result ≡ Err (batches.Refused why index)
+      → cause ≡ Some (record { why = why; index = index })
   pub allowed : IsOk result ⊎ (result ≡ Err batches.Failed) → cause ≡ None
   pub stands : IfOk result (λ n. StandsFor new (history ++ entry ∷ []) × (n ≡ length history + 1))
 
@@ -37,4 +40,5 @@ GivesUpAll declines.Memory error old new = (error ≡ batches.Memory) × (new �
 -- what it says of a batch: with items that were held, or with some whose texts are together too long to be
 abbrev pub AddsBatch : History → BatchItems → Result ℕ BatchError → ArchiveState → Type 0
 AddsBatch history (Items items) result new = AddsAll history (Batch (flat_map act_of items)) (batch_cause history items) result new
-AddsBatch history (TooLong bytes) result new = result ≡ Err (batches.Refused (unwrap_or (old_format history) (refusals.BatchTooLong most_batch)) None)
+AddsBatch history (TooLong bytes) result new = result
+    ≡ Err (batches.Refused (unwrap_or (old_format history) (refusals.BatchTooLong most_batch)) None)

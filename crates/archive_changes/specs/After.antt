@@ -10,7 +10,8 @@ use Rattle.archive_hand.specs.declared.error.ChangeError.TheVariants as changes
 
 -- After a call that changes an archive, on any disk: `Spent` says what an archive that is spent keeps, `tells` that the disk tells, `refused` what
 -- a refusal leaves as it was, and `uncalled` that the disk is as it was.
-pub record AfterChange {T : Type 0} (Spent : ArchiveState → ArchiveState → Type 0) (tells refused uncalled : Type 0) (result : Result T ChangeError) (d e : DiskState) (old new : ArchiveState) : Type 0 where
+pub record AfterChange {T : Type 0} (Spent : ArchiveState → ArchiveState → Type 0) (tells refused uncalled : Type 0)
+    (result : Result T ChangeError) (d e : DiskState) (old new : ArchiveState) : Type 0 where
   -- it failed only where a call of the disk failed
   pub failed : result ≡ Err changes.Failed → Rose d.faults e.faults
   -- the disk reaches as far as what the archive may read

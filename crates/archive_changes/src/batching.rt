@@ -41,12 +41,14 @@ pub fn batch<D: Disk>(
     requires live { IsTrue archive.old.live }
     requires within { Reaches (D.disk disk.old).reach archive.old }
     ensures only { D.Disk.only disk.old disk.new }
-    ensures after { AfterChange IsSpentBut D.disk_tells ((archive.new ≡ archive.old) × (disk.new ≡ disk.old)) (disk.new ≡ disk.old) (plainly result) (D.disk disk.old) (D.disk disk.new) archive.old archive.new }
+    ensures after { AfterChange IsSpentBut D.disk_tells ((archive.new ≡ archive.old) × (disk.new ≡ disk.old)) (disk.new ≡ disk.old)
+        (plainly result) (D.disk disk.old) (D.disk disk.new) archive.old archive.new }
     // On any disk: a refusal is the first cause in order, comes wherever there is one (unless memory runs out), and changes nothing; at Ok
     // the archive stands for the history with the new entry, and answers how many entries there are.
     ensures adds { (h : History) → StandsFor archive.old h → AddsBatch h items.now result archive.new }
     // In step by what reads give, whatever lies in Pages, it is a step; each image left since stands for what was before it or after it.
-    ensures by_reads { D.disk_tells → (s : Store) → AreInStepBy (D.disk disk.old) archive.old s → TakesBy s (given.Command (commands.Batch items.now)) (changed_all result) (D.disk disk.old) (D.disk disk.new) archive.new }
+    ensures by_reads { D.disk_tells → (s : Store) → AreInStepBy (D.disk disk.old) archive.old s
+        → TakesBy s (given.Command (commands.Batch items.now)) (changed_all result) (D.disk disk.old) (D.disk disk.new) archive.new }
     ensures pages { D.disk_tells → KeepsPages (D.disk disk.old) (D.disk disk.new) }
 {
     match items {
@@ -70,9 +72,12 @@ fn add_batch<D: Disk>(
     requires sized { (1 ≤ length items.now) × (length items.now ≤ 1000) }
     requires short { texts_bytes items.now ≤ 16777216 }
     ensures only { D.Disk.only disk.old disk.new }
-    ensures after { AfterChange IsSpentBut D.disk_tells ((archive.new ≡ archive.old) × (disk.new ≡ disk.old)) (disk.new ≡ disk.old) (plainly result) (D.disk disk.old) (D.disk disk.new) archive.old archive.new }
+    ensures after { AfterChange IsSpentBut D.disk_tells ((archive.new ≡ archive.old) × (disk.new ≡ disk.old)) (disk.new ≡ disk.old)
+        (plainly result) (D.disk disk.old) (D.disk disk.new) archive.old archive.new }
     ensures adds { (h : History) → StandsFor archive.old h → AddsBatch h (Items items.now) result archive.new }
-    ensures by_reads { D.disk_tells → (s : Store) → AreInStepBy (D.disk disk.old) archive.old s → TakesBy s (given.Command (commands.Batch (Items items.now))) (changed_all result) (D.disk disk.old) (D.disk disk.new) archive.new }
+    ensures by_reads { D.disk_tells → (s : Store) → AreInStepBy (D.disk disk.old) archive.old s
+        → TakesBy s (given.Command (commands.Batch (Items items.now))) (changed_all result) (D.disk disk.old)
+        (D.disk disk.new) archive.new }
     ensures pages { D.disk_tells → KeepsPages (D.disk disk.old) (D.disk disk.new) }
 {
     match archive.batch(alloc, items) {

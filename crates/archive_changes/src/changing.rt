@@ -46,12 +46,16 @@ pub fn arrive<D: Disk>(
     requires live { IsTrue archive.old.live }
     requires within { Reaches (D.disk disk.old).reach archive.old }
     ensures only { D.Disk.only disk.old disk.new }
-    ensures after { AfterChange IsSpent D.disk_tells ((archive.new ≡ archive.old) × (disk.new ≡ disk.old)) (disk.new ≡ disk.old) result (D.disk disk.old) (D.disk disk.new) archive.old archive.new }
+    ensures after { AfterChange IsSpent D.disk_tells ((archive.new ≡ archive.old) × (disk.new ≡ disk.old)) (disk.new ≡ disk.old) result
+        (D.disk disk.old) (D.disk disk.new) archive.old archive.new }
     // On any disk: a refusal is the first cause in order, comes wherever there is one (unless memory runs out), and changes nothing; at Ok
     // the archive stands for the history with the new entry, and answers how many entries there are.
-    ensures adds { (h : History) → StandsFor archive.old h → Adds h (entries.Arrive doc at text.now) (arrival_refusal h doc at text.now) result archive.new }
+    ensures adds { (h : History) → StandsFor archive.old h
+        → Adds h (entries.Arrive doc at text.now) (arrival_refusal h doc at text.now) result archive.new }
     // In step by what reads give, whatever lies in Pages, it is a step; each image left since stands for what was before it or after it.
-    ensures by_reads { D.disk_tells → (s : Store) → AreInStepBy (D.disk disk.old) archive.old s → TakesBy s (items.Command (commands.Arrive doc at (texts.Bytes text.now))) (changed result) (D.disk disk.old) (D.disk disk.new) archive.new }
+    ensures by_reads { D.disk_tells → (s : Store) → AreInStepBy (D.disk disk.old) archive.old s
+        → TakesBy s (items.Command (commands.Arrive doc at (texts.Bytes text.now))) (changed result) (D.disk disk.old)
+        (D.disk disk.new) archive.new }
     ensures pages { D.disk_tells → KeepsPages (D.disk disk.old) (D.disk disk.new) }
 {
     let prepared = archive.arrival(alloc, doc, at, text);
@@ -78,12 +82,14 @@ pub fn delete<D: Disk>(
     requires live { IsTrue archive.old.live }
     requires within { Reaches (D.disk disk.old).reach archive.old }
     ensures only { D.Disk.only disk.old disk.new }
-    ensures after { AfterChange IsSpent D.disk_tells ((archive.new ≡ archive.old) × (disk.new ≡ disk.old)) (disk.new ≡ disk.old) result (D.disk disk.old) (D.disk disk.new) archive.old archive.new }
+    ensures after { AfterChange IsSpent D.disk_tells ((archive.new ≡ archive.old) × (disk.new ≡ disk.old)) (disk.new ≡ disk.old) result
+        (D.disk disk.old) (D.disk disk.new) archive.old archive.new }
     // On any disk: a refusal is the first cause in order, comes wherever there is one (unless memory runs out), and changes nothing; at Ok
     // the archive stands for the history with the new entry, and answers how many entries there are.
     ensures adds { (h : History) → StandsFor archive.old h → Adds h (entries.Delete doc at) (deletion_refusal h doc at) result archive.new }
     // In step by what reads give, whatever lies in Pages, it is a step; each image left since stands for what was before it or after it.
-    ensures by_reads { D.disk_tells → (s : Store) → AreInStepBy (D.disk disk.old) archive.old s → TakesBy s (items.Command (commands.Delete doc at)) (changed result) (D.disk disk.old) (D.disk disk.new) archive.new }
+    ensures by_reads { D.disk_tells → (s : Store) → AreInStepBy (D.disk disk.old) archive.old s
+        → TakesBy s (items.Command (commands.Delete doc at)) (changed result) (D.disk disk.old) (D.disk disk.new) archive.new }
     ensures pages { D.disk_tells → KeepsPages (D.disk disk.old) (D.disk disk.new) }
 {
     let prepared = archive.deletion(alloc, doc, at);
@@ -104,12 +110,14 @@ pub fn mark_format<D: Disk>(
     requires live { IsTrue archive.old.live }
     requires within { Reaches (D.disk disk.old).reach archive.old }
     ensures only { D.Disk.only disk.old disk.new }
-    ensures after { AfterChange IsSpent D.disk_tells ((archive.new ≡ archive.old) × (disk.new ≡ disk.old)) (disk.new ≡ disk.old) result (D.disk disk.old) (D.disk disk.new) archive.old archive.new }
+    ensures after { AfterChange IsSpent D.disk_tells ((archive.new ≡ archive.old) × (disk.new ≡ disk.old)) (disk.new ≡ disk.old) result
+        (D.disk disk.old) (D.disk disk.new) archive.old archive.new }
     // On any disk: a refusal is the first cause in order, comes wherever there is one (unless memory runs out), and changes nothing; at Ok
     // the archive stands for the history with the new entry, and answers how many entries there are.
     ensures adds { (h : History) → StandsFor archive.old h → Adds h entries.Format (mark_refusal h) result archive.new }
     // In step by what reads give, whatever lies in Pages, it is a step; each image left since stands for what was before it or after it.
-    ensures by_reads { D.disk_tells → (s : Store) → AreInStepBy (D.disk disk.old) archive.old s → TakesBy s (items.Command commands.Format) (changed result) (D.disk disk.old) (D.disk disk.new) archive.new }
+    ensures by_reads { D.disk_tells → (s : Store) → AreInStepBy (D.disk disk.old) archive.old s
+        → TakesBy s (items.Command commands.Format) (changed result) (D.disk disk.old) (D.disk disk.new) archive.new }
     ensures pages { D.disk_tells → KeepsPages (D.disk disk.old) (D.disk disk.new) }
 {
     archive.mark(alloc, disk)
@@ -126,11 +134,15 @@ fn add<D: Disk>(
     requires within { Reaches (D.disk disk.old).reach archive.old }
     requires fits { IfOk prepared (λ p. length p.body.items < 2 ^ 32) }
     requires allowed { IfOk prepared (λ p. change_refusal p.change archive.old.changes ≡ None) }
-    requires next { (h : History) → StandsFor archive.old h → (entry : Entry) × (refusal : Option Refusal) × IsPrepared h archive.old.index entry refusal prepared }
+    requires next { (h : History) → StandsFor archive.old h → (entry : Entry) × (refusal : Option Refusal)
+        × IsPrepared h archive.old.index entry refusal prepared }
     ensures only { D.Disk.only disk.old disk.new }
-    ensures after { AfterChange IsSpent D.disk_tells ((archive.new ≡ archive.old) × (disk.new ≡ disk.old)) (disk.new ≡ disk.old) result (D.disk disk.old) (D.disk disk.new) archive.old archive.new }
-    ensures adds { (h : History) (entry : Entry) (refusal : Option Refusal) → StandsFor archive.old h → IsPrepared h archive.old.index entry refusal prepared → Adds h entry refusal result archive.new }
-    ensures by_reads { D.disk_tells → (s : Store) (entry : Entry) (refusal : Option Refusal) → AreInStepBy (D.disk disk.old) archive.old s → IsPrepared s.history archive.old.index entry refusal prepared →
+    ensures after { AfterChange IsSpent D.disk_tells ((archive.new ≡ archive.old) × (disk.new ≡ disk.old)) (disk.new ≡ disk.old) result
+        (D.disk disk.old) (D.disk disk.new) archive.old archive.new }
+    ensures adds { (h : History) (entry : Entry) (refusal : Option Refusal) → StandsFor archive.old h
+        → IsPrepared h archive.old.index entry refusal prepared → Adds h entry refusal result archive.new }
+    ensures by_reads { D.disk_tells → (s : Store) (entry : Entry) (refusal : Option Refusal) → AreInStepBy (D.disk disk.old) archive.old s
+        → IsPrepared s.history archive.old.index entry refusal prepared →
         LeadsBy s (with_entry s entry s.pages archive.new (D.disk disk.new)) (D.disk disk.old) (D.disk disk.new)
         × OnOk result (AreInStepBy (D.disk disk.new) archive.new (with_entry s entry s.pages archive.new (D.disk disk.new))) }
     ensures pages { D.disk_tells → KeepsPages (D.disk disk.old) (D.disk disk.new) }

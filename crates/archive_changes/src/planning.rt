@@ -48,13 +48,17 @@ pub fn plan<D: Disk>(
     requires live { IsTrue archive.old.live }
     requires within { Reaches (D.disk disk.old).reach archive.old }
     ensures only { D.Disk.only disk.old disk.new }
-    ensures after { AfterChange IsSpent D.disk_tells (disk.new ≡ disk.old) (disk.new ≡ disk.old) result (D.disk disk.old) (D.disk disk.new) archive.old archive.new }
+    ensures after { AfterChange IsSpent D.disk_tells (disk.new ≡ disk.old) (disk.new ≡ disk.old) result (D.disk disk.old)
+        (D.disk disk.new) archive.old archive.new }
     // On any disk, whatever history it stood for: a refusal has its cause there, and comes wherever there is one (unless memory runs out); at Ok
     // the archive stands for a history with a plan that may be stored.
-    ensures refused { (h : History) → StandsFor archive.old h → (why : Refusal) → IsErrOf result (ChangeError.Refused why) → Plans h word.now kind factor (Refused why) h × StandsFor archive.new h }
-    ensures stores { (h : History) → StandsFor archive.old h → IfOk result (λ r. (next : History) × (Plans h word.now kind factor (Planned r) next × StandsFor archive.new next)) }
+    ensures refused { (h : History) → StandsFor archive.old h → (why : Refusal) → IsErrOf result (ChangeError.Refused why)
+        → Plans h word.now kind factor (Refused why) h × StandsFor archive.new h }
+    ensures stores { (h : History) → StandsFor archive.old h
+        → IfOk result (λ r. (next : History) × (Plans h word.now kind factor (Planned r) next × StandsFor archive.new next)) }
     // In step by what reads give, whatever lies in Pages, it is a step; each image left since stands for what was before it or after it.
-    ensures by_reads { D.disk_tells → (s : Store) → AreInStepBy (D.disk disk.old) archive.old s → TakesBy s (items.Command (commands.Plan word.now kind factor)) (planned result) (D.disk disk.old) (D.disk disk.new) archive.new }
+    ensures by_reads { D.disk_tells → (s : Store) → AreInStepBy (D.disk disk.old) archive.old s
+        → TakesBy s (items.Command (commands.Plan word.now kind factor)) (planned result) (D.disk disk.old) (D.disk disk.new) archive.new }
 {
     match draft(alloc, archive, word, kind, factor) {
         Ok(draft) => archive.store(alloc, disk, draft),
@@ -88,7 +92,8 @@ fn draft_of(alloc: Global, sealed: Sealed, kind: Kind, factor: Fraction) -> Resu
     requires some { 0 < length sealed.list.items }
     requires few { length sealed.list.items < 2 ^ 38 }
     requires early { All (λ p. p.span.to ≤ sealed.horizon.seconds) sealed.list.items }
-    ensures refused { (why : Refusal) → IsErrOf result (Declined.Refused why) → OfWidth kind sealed.horizon.seconds sealed.list.items (λ because. why ≡ because) ⊥ }
+    ensures refused { (why : Refusal) → IsErrOf result (Declined.Refused why)
+        → OfWidth kind sealed.horizon.seconds sealed.list.items (λ because. why ≡ because) ⊥ }
     ensures word { IfOk result (λ d. d.word ≡ sealed.word) }
     ensures kind { IfOk result (λ d. d.kind ≡ kind) }
     ensures factor { IfOk result (λ d. d.factor ≡ factor) }

@@ -12,4 +12,5 @@ use Rattle.archive_check.specs.Verdicts.{IsVerdict}
 
 -- the verdict on a history's live plans by the bytes of an image: texts are read where the history's entries lie, and sublists where its plans say
 abbrev pub IsChecked : History → Bytes → Verdict → Type 0
-IsChecked history image verdict = (changes : List (Change TextPlace)) × ArePlaced first_gate history changes × IsVerdict image.journal changes image.pages (live_plans history) verdict
+IsChecked history image verdict = (changes : List (Change TextPlace)) × ArePlaced first_gate history changes
+    × IsVerdict image.journal changes image.pages (live_plans history) verdict

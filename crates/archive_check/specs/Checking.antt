@@ -34,7 +34,8 @@ use Rattle.archive_check.specs.Digests.{HasDigest, HasDigests, IsAltered, IsFirs
 -- ---- texts; on a disk that tells they are those that stand in the journal
 
 -- a change's text was loaded behind others; it is UTF-8
-pub record IsLoadedBehind (tells : Type 0) (journal : List ℕ) (texts : List (Change (List ℕ))) (change : Change TextPlace) (loader : Loaded) : Type 0 where
+pub record IsLoadedBehind (tells : Type 0) (journal : List ℕ) (texts : List (Change (List ℕ))) (change : Change TextPlace)
+    (loader : Loaded) : Type 0 where
   pub text : Option (List ℕ)
   pub loads : AreLoaded loader (texts ++ record { doc = change.doc; at = change.at; held = text } ∷ [])
   pub utf8 : IfSome text IsUtf8
@@ -65,7 +66,8 @@ AreRead tells journal changes (Bad version) = tells → IsFirstBad (with_texts j
 
 -- the bytes of all segments are as wanted, or those of this one are the first that aren't
 abbrev pub IsFirstWrong : (found wanted : List (List ℕ)) → Option Wrong → Type 0
-IsFirstWrong found wanted o = MatchOption o (found ≡ wanted) (λ (w : Wrong). SegmentDiffers found wanted w.segment w.spot.place w.spot.found w.spot.wanted)
+IsFirstWrong found wanted o = MatchOption o (found ≡ wanted)
+    (λ (w : Wrong). SegmentDiffers found wanted w.segment w.spot.place w.spot.found w.spot.wanted)
 
 -- a partition takes more than the least space of those that keep the factor, from its first cut to the horizon
 pub record IsBeaten (list : List Posting) (factor : Fraction) (h : ℕ) (cuts : List ℕ) (taken least : ℕ) : Type 0 where
@@ -91,7 +93,8 @@ IsFaultOf texts pages plan (BadText doc at) = ⊥
 abbrev pub IsExcessOf : PlanEntry → List Posting → Verdict → Type 0
 IsExcessOf plan list (Sound words segments) = ⊥
 IsExcessOf plan list (Differs word segment place found wanted) = ⊥
-IsExcessOf plan list (NotLeast word taken least) = (word ≡ plan.word) × (plan.kind ≡ Guarantee) × IsExcess list plan.fraction plan.cuts plan.horizon.seconds taken least
+IsExcessOf plan list (NotLeast word taken least) = (word ≡ plan.word) × (plan.kind ≡ Guarantee)
+    × IsExcess list plan.fraction plan.cuts plan.horizon.seconds taken least
 IsExcessOf plan list (BadText doc at) = ⊥
 
 -- ---- digests
@@ -102,14 +105,17 @@ AreAltered pages places o = MatchOption o (All (HasDigest pages) places) (λ seg
 
 -- all plans have the digests of their bytes, or of this word's plan this segment's is the first that is wrong
 abbrev pub AreFirstAltered : List ℕ → List StoredPlan → Option Altered → Type 0
-AreFirstAltered pages plans o = MatchOption o (All (λ s. HasDigests pages s.plan) plans) (λ (a : Altered). IsFirstAltered a.word a.segment pages plans)
+AreFirstAltered pages plans o = MatchOption o (All (λ s. HasDigests pages s.plan) plans)
+    (λ (a : Altered). IsFirstAltered a.word a.segment pages plans)
 
 -- what a check of plans in this order tells of digests, where it asks them: one is wrong only where all else is sound
 abbrev pub DigestsTold : Checked → List ℕ → List StoredPlan → Type 0
-DigestsTold checked pages plans = (TellsSound checked.verdict → AreFirstAltered pages plans checked.altered) × IfSome checked.altered (λ _. TellsSound checked.verdict)
+DigestsTold checked pages plans = (TellsSound checked.verdict → AreFirstAltered pages plans checked.altered)
+    × IfSome checked.altered (λ _. TellsSound checked.verdict)
 
 -- what a check came to, with digests or without
-pub record TellsAll (digests : Digests) (checked : Checked) (texts : List (Change (List ℕ))) (pages : List ℕ) (plans : List StoredPlan) : Type 0 where
+pub record TellsAll (digests : Digests) (checked : Checked) (texts : List (Change (List ℕ))) (pages : List ℕ)
+    (plans : List StoredPlan) : Type 0 where
   pub ordered : List StoredPlan
   pub by_number : AreByNumber (words_in texts) plans ordered
   pub says : Says checked.verdict texts pages ordered

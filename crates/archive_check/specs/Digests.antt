@@ -56,7 +56,8 @@ TellsSound (NotLeast word taken least) = ⊥
 TellsSound (BadText doc at) = ⊥
 
 -- the verdict is that all is sound, and of the plans by the numbers of their words in the texts this digest is the first that is wrong
-pub record HasBadDigest (word : List ℕ) (segment : ℕ) (texts : List (Change (List ℕ))) (pages : List ℕ) (plans : List StoredPlan) : Type 0 where
+pub record HasBadDigest (word : List ℕ) (segment : ℕ) (texts : List (Change (List ℕ))) (pages : List ℕ)
+    (plans : List StoredPlan) : Type 0 where
   pub words : ℕ
   pub segments : ℕ
   pub sound : Tells (Sound words segments) texts pages plans
@@ -75,4 +76,5 @@ IsFinding journal changes pages plans finding = Finds finding (with_texts journa
 
 -- what is found of a history's live plans by the bytes of an image: texts are read where the history's entries lie, and sublists where its plans say
 abbrev pub IsExamined : History → Bytes → Finding → Type 0
-IsExamined history image finding = (changes : List (Change TextPlace)) × ArePlaced first_gate history changes × IsFinding image.journal changes image.pages (live_plans history) finding
+IsExamined history image finding = (changes : List (Change TextPlace)) × ArePlaced first_gate history changes
+    × IsFinding image.journal changes image.pages (live_plans history) finding

@@ -24,7 +24,8 @@ use Rattle.archive_check.specs.Digests.{HasDigests, IsFinding, IsExamined}
 
 -- The changes of a history that loads come in the order that a check asks for.
 abbrev pub LoadedChangesAreInOrder : Type 0
-LoadedChangesAreInOrder = (history : History) (changes : List (Change TextPlace)) → IsLoadable history → ArePlaced first_gate history changes → AreInOrder changes
+LoadedChangesAreInOrder = (history : History) (changes : List (Change TextPlace)) → IsLoadable history
+    → ArePlaced first_gate history changes → AreInOrder changes
 
 -- Of some plans there is one verdict at most.
 abbrev pub OneVerdict : Type 0
@@ -33,15 +34,18 @@ OneVerdict = (journal : List ℕ) (changes : List (Change TextPlace)) (pages : L
 
 -- The verdict on an image that stands for a history is the history's.
 abbrev pub WhatStandsIsVerified : Type 0
-WhatStandsIsVerified = (history : History) (image : Bytes) (verdict : Verdict) → Stands history image → IsChecked history image verdict → Verifies history verdict
+WhatStandsIsVerified = (history : History) (image : Bytes) (verdict : Verdict) → Stands history image → IsChecked history image verdict
+    → Verifies history verdict
 
 -- So where each plan is what its kind promises, all is sound.
 abbrev pub WhatStandsIsSound : Type 0
-WhatStandsIsSound = (history : History) (image : Bytes) (verdict : Verdict) → IsLegal history → Stands history image → IsChecked history image verdict → verdict ≡ sound_of history
+WhatStandsIsSound = (history : History) (image : Bytes) (verdict : Verdict) → IsLegal history → Stands history image
+    → IsChecked history image verdict → verdict ≡ sound_of history
 
 -- Of a new archive all is sound, whatever an image holds, and nothing else is told.
 abbrev pub ANewArchiveIsSound : Type 0
-ANewArchiveIsSound = (image : Bytes) → IsChecked [] image (Sound 0 0) × ((verdict : Verdict) → IsChecked [] image verdict → verdict ≡ Sound 0 0)
+ANewArchiveIsSound = (image : Bytes)
+    → IsChecked [] image (Sound 0 0) × ((verdict : Verdict) → IsChecked [] image verdict → verdict ≡ Sound 0 0)
 
 -- ---- digests
 
@@ -52,14 +56,18 @@ OneFinding = (journal : List ℕ) (changes : List (Change TextPlace)) (pages : L
 
 -- An image that stands for a history in which each plan is what its kind promises has one finding, that all is sound.
 abbrev pub WhatStandsIsFoundSound : Type 0
-WhatStandsIsFoundSound = (history : History) (image : Bytes) (finding : Finding) → IsLegal history → Stands history image → IsExamined history image finding → finding ≡ Told (sound_of history)
+WhatStandsIsFoundSound = (history : History) (image : Bytes) (finding : Finding) → IsLegal history → Stands history image
+    → IsExamined history image finding → finding ≡ Told (sound_of history)
 
 -- Where the journal spells a history, its live extents lie inside Pages with no page of two, a check tells that all is sound, and all digests are
 -- right, the pages hold the live plans' sublists. With a history that loads, the image stands for it.
 abbrev pub SoundWithDigestsIsHeld : Type 0
-SoundWithDigestsIsHeld = (history : History) (image : Bytes) (words segments : ℕ) → Spells image.journal (bodies_of history) → IsChecked history image (Sound words segments)
-    → All (λ stored. HasDigests image.pages stored.plan) (live_plans history) → AreLive (live_extents history) (length image.pages) → HoldsPlans history image.pages
+SoundWithDigestsIsHeld = (history : History) (image : Bytes) (words segments : ℕ) → Spells image.journal (bodies_of history)
+    → IsChecked history image (Sound words segments)
+    → All (λ stored. HasDigests image.pages stored.plan) (live_plans history) → AreLive (live_extents history) (length image.pages)
+    → HoldsPlans history image.pages
 
 -- Pages that hold the live plans' sublists have their digests.
 abbrev pub WhatIsHeldHasItsDigests : Type 0
-WhatIsHeldHasItsDigests = (history : History) (pages : List ℕ) → HoldsPlans history pages → All (λ stored. HasDigests pages stored.plan) (live_plans history)
+WhatIsHeldHasItsDigests = (history : History) (pages : List ℕ) → HoldsPlans history pages
+    → All (λ stored. HasDigests pages stored.plan) (live_plans history)

@@ -96,7 +96,8 @@ pub record IsSound (texts : List (Change (List ℕ))) (pages : List ℕ) (plan :
   pub least : IsToBeLeast plan list → IsLeastPlan list plan.fraction plan.cuts plan.horizon.seconds
 
 -- the bytes of a plan's sublist differ from what they should be
-pub record HasDifference (word : List ℕ) (segment place : ℕ) (found wanted : Option ℕ) (texts : List (Change (List ℕ))) (pages : List ℕ) (plan : PlanEntry) : Type 0 where
+pub record HasDifference (word : List ℕ) (segment place : ℕ) (found wanted : Option ℕ) (texts : List (Change (List ℕ))) (pages : List ℕ)
+    (plan : PlanEntry) : Type 0 where
   pub word_is : word ≡ plan.word
   pub list : List Posting
   pub planned : IsPlanned texts plan list
@@ -116,7 +117,8 @@ pub record TakesMore (word : List ℕ) (taken least : ℕ) (texts : List (Change
 -- ---- the verdict
 
 -- the texts are UTF-8, the first plans are sound, and the next one has this fault
-pub record FirstFault (fault : List (Change (List ℕ)) → List ℕ → PlanEntry → Type 0) (texts : List (Change (List ℕ))) (pages : List ℕ) (plans : List StoredPlan) : Type 0 where
+pub record FirstFault (fault : List (Change (List ℕ)) → List ℕ → PlanEntry → Type 0) (texts : List (Change (List ℕ))) (pages : List ℕ)
+    (plans : List StoredPlan) : Type 0 where
   pub utf8 : All IsText texts
   pub front : List StoredPlan
   pub stored : StoredPlan
@@ -135,13 +137,15 @@ pub record AllSound (words segments : ℕ) (texts : List (Change (List ℕ))) (p
 -- what a verdict says of texts, pages and plans that are checked in this order
 abbrev pub Says : Verdict → List (Change (List ℕ)) → List ℕ → List StoredPlan → Type 0
 Says (Sound words segments) texts pages plans = AllSound words segments texts pages plans
-Says (Differs word segment place found wanted) texts pages plans = FirstFault (HasDifference word segment place found wanted) texts pages plans
+Says (Differs word segment place found wanted) texts pages plans = FirstFault (HasDifference word segment place found wanted) texts pages
+    plans
 Says (NotLeast word taken least) texts pages plans = FirstFault (TakesMore word taken least) texts pages plans
 Says (BadText doc at) texts pages plans = (0 < length plans) × IsFirstBad texts doc at
 
 -- what a verdict says of them where the plans are checked by the numbers that their words have in the texts
 abbrev pub Tells : Verdict → List (Change (List ℕ)) → List ℕ → List StoredPlan → Type 0
-Tells verdict texts pages plans = (ordered : List StoredPlan) × AreByNumber (words_in texts) plans ordered × Says verdict texts pages ordered
+Tells verdict texts pages plans = (ordered : List StoredPlan) × AreByNumber (words_in texts) plans ordered
+    × Says verdict texts pages ordered
 
 -- the verdict is that of these plans, by the bytes of the journal and of Pages
 abbrev pub IsVerdict : (journal : List ℕ) → List (Change TextPlace) → (pages : List ℕ) → List StoredPlan → Verdict → Type 0

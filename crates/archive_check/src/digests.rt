@@ -16,7 +16,8 @@ pub(crate) enum Digests {
 /// The first of one segment whose digest in the journal isn't that of its bytes, where digests are asked.
 /// Costs the bytes.
 pub(crate) fn altered_of(digests: Digests, kept: &[u8; 32], bytes: &[u8]) -> Option<usize>
-    ensures told { digests ≡ Digests.Asked → MatchOption result (kept.now ≡ sha256 bytes.now) (λ n. (n ≡ 0) × (kept.now ≢ sha256 bytes.now)) }
+    ensures told { digests ≡ Digests.Asked
+        → MatchOption result (kept.now ≡ sha256 bytes.now) (λ n. (n ≡ 0) × (kept.now ≢ sha256 bytes.now)) }
     ensures first { IfSome result (λ n. n ≡ 0) }
 {
     match digests {

@@ -111,7 +111,8 @@ fn excess_by(
         → IsLeast list factor (slice_index stored.now 0) (drop 1 stored.now) horizon) }
     // Where it says no, one that keeps the factor takes more than the least, since the best numbers certify each least one.
     ensures beaten { IfOk result (λ o. IfSome o (λ e. (list : List PlainPosting) (horizon : ℕ) → Tabulates list horizon table.now
-        → Covers list factor (slice_index stored.now 0) (drop 1 stored.now) horizon → IsBeaten list factor horizon stored.now e.taken e.least)) }
+        → Covers list factor (slice_index stored.now 0) (drop 1 stored.now) horizon
+        → IsBeaten list factor horizon stored.now e.taken e.least)) }
 {
     let (_, best) = plan(alloc, table, factor)?;
     if check(alloc, table, factor, stored, &best)? {

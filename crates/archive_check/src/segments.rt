@@ -67,8 +67,11 @@ pub(crate) fn first_faults<D: Disk>(
     ensures failed { IsErrOf result VerifyError.Failed → Rose (D.disk disk.old).faults (D.disk disk.new).faults }
     ensures within { IfOk result (λ f. IfSome f.wrong (λ w. w.segment < length cuts.now)) }
     ensures altered_within { IfOk result (λ f. IfSome f.altered (λ n. n < length cuts.now)) }
-    ensures found { D.disk_tells → IfOk result (λ f. IsFirstWrong (map (λ p. bytes_in p.extent (D.disk disk.old).holds.pages) places.now) (spellings looking.layout list.now (seconds cuts.now) end.seconds) f.wrong) }
-    ensures altered { D.disk_tells → looking.digests ≡ Digests.Asked → IfOk result (λ f. f.wrong ≡ None → AreAltered (D.disk disk.old).holds.pages places.now f.altered) }
+    ensures found { D.disk_tells
+        → IfOk result (λ f. IsFirstWrong (map (λ p. bytes_in p.extent (D.disk disk.old).holds.pages) places.now)
+        (spellings looking.layout list.now (seconds cuts.now) end.seconds) f.wrong) }
+    ensures altered { D.disk_tells → looking.digests ≡ Digests.Asked
+        → IfOk result (λ f. f.wrong ≡ None → AreAltered (D.disk disk.old).holds.pages places.now f.altered) }
 {
     if cuts.is_empty() {
         return Ok(Faults {
@@ -100,8 +103,10 @@ fn joined(front: Option<usize>, back: Faults, before: usize, count: usize) -> Fa
     requires within { IfSome back.wrong (λ w. w.segment < count) }
     requires altered_within { IfSome back.altered (λ n. n < count) }
     requires few { before + count < 2 ^ 64 }
-    ensures wrong { MatchOption back.wrong (result.wrong ≡ None) (λ w. result.wrong ≡ Some (record { segment = before + w.segment; spot = w.spot })) }
-    ensures altered { MatchOption front (MatchOption back.altered (result.altered ≡ None) (λ n. result.altered ≡ Some (before + n))) (λ n. result.altered ≡ Some n) }
+    ensures wrong { MatchOption back.wrong (result.wrong ≡ None)
+        (λ w. result.wrong ≡ Some (record { segment = before + w.segment; spot = w.spot })) }
+    ensures altered { MatchOption front (MatchOption back.altered (result.altered ≡ None) (λ n. result.altered ≡ Some (before + n)))
+        (λ n. result.altered ≡ Some n) }
 {
     Faults {
         wrong: moved(back.wrong, before, count),
@@ -158,7 +163,8 @@ fn faults_of<D: Disk>(
     ensures altered_within { IfOk result (λ f. IfSome f.altered (λ n. n ≡ 0)) }
     ensures found { D.disk_tells → IfOk result (λ f. MatchOption f.wrong
         (bytes_in place.now.extent (D.disk disk.old).holds.pages ≡ spelling_in looking.layout (sublist from.seconds to.seconds list.now))
-        (λ w. DifferAt (bytes_in place.now.extent (D.disk disk.old).holds.pages) (spelling_in looking.layout (sublist from.seconds to.seconds list.now)) w.spot.place w.spot.found w.spot.wanted)) }
+        (λ w. DifferAt (bytes_in place.now.extent (D.disk disk.old).holds.pages)
+        (spelling_in looking.layout (sublist from.seconds to.seconds list.now)) w.spot.place w.spot.found w.spot.wanted)) }
     ensures altered { D.disk_tells → looking.digests ≡ Digests.Asked → IfOk result (λ f. f.wrong ≡ None → MatchOption f.altered
         (HasDigest (D.disk disk.old).holds.pages place.now) (λ _. ¬ (HasDigest (D.disk disk.old).holds.pages place.now))) }
 {

@@ -103,7 +103,8 @@ fn load_text<D: Disk>(
     ensures only { D.Disk.only disk.old disk.new }
     ensures same { OnlyReads (D.disk disk.old) (D.disk disk.new) }
     ensures failed { IsErrOf result VerifyError.Failed → Rose (D.disk disk.old).faults (D.disk disk.new).faults }
-    ensures loaded { IfOk result (λ b. IsTrue b → (texts : List (PlainChange (List ℕ))) → Loads loader.old texts → All (λ d. d.at.seconds < change.at.seconds) (changes_of change.doc texts) →
+    ensures loaded { IfOk result (λ b. IsTrue b → (texts : List (PlainChange (List ℕ))) → Loads loader.old texts
+        → All (λ d. d.at.seconds < change.at.seconds) (changes_of change.doc texts) →
         IsLoadedBehind D.disk_tells (D.disk disk.old).holds.journal texts change (loaded loader.new)) }
     ensures bad { D.disk_tells → IfOk result (λ b. (IsTrue b → ⊥) → ¬ (IsText (mapped (text_in (D.disk disk.old).holds.journal) change))) }
 {
@@ -129,7 +130,8 @@ fn load_bytes(
 ) -> Result<bool, VerifyError>
     requires few { length bytes.now < 2 ^ 32 }
     ensures fair { IsErrOf result VerifyError.Failed → ⊥ }
-    ensures loaded { IfOk result (λ b. IsTrue b → (texts : List (PlainChange (List ℕ))) → Loads loader.old texts → All (λ d. d.at.seconds < at.seconds) (changes_of doc texts) →
+    ensures loaded { IfOk result (λ b. IsTrue b → (texts : List (PlainChange (List ℕ))) → Loads loader.old texts
+        → All (λ d. d.at.seconds < at.seconds) (changes_of doc texts) →
         Loads loader.new (texts ++ record { doc = doc; at = at; held = Some bytes.now } ∷ [])) }
     ensures utf8 { IfOk result (λ b. IsTrue b ↔ IsUtf8 bytes.now) }
 {
@@ -154,7 +156,8 @@ fn first_bad<D: Disk>(
     ensures only { D.Disk.only disk.old disk.new }
     ensures same { OnlyReads (D.disk disk.old) (D.disk disk.new) }
     ensures failed { IsErrOf result VerifyError.Failed → Rose (D.disk disk.old).faults (D.disk disk.new).faults }
-    ensures first { D.disk_tells → ¬ (IsText (mapped (text_in (D.disk disk.old).holds.journal) first)) → IfOk result (λ v. IsFirstBad (with_texts (D.disk disk.old).holds.journal (first ∷ changes.now)) v.doc v.at) }
+    ensures first { D.disk_tells → ¬ (IsText (mapped (text_in (D.disk disk.old).holds.journal) first))
+        → IfOk result (λ v. IsFirstBad (with_texts (D.disk disk.old).holds.journal (first ∷ changes.now)) v.doc v.at) }
 {
     let mut bad = Version {
         doc: first.doc,
@@ -196,7 +199,8 @@ fn earlier_bad<D: Disk>(
 
 /// Whether a change stands in front of a version in the order of (document, time).
 fn comes_first(change: Change<TextPlace>, version: Version) -> bool
-    ensures { IsTrue result ↔ ((change.doc.0 < version.doc.0) ⊎ ((change.doc.0 ≡ version.doc.0) × (change.at.seconds < version.at.seconds))) }
+    ensures { IsTrue result ↔ ((change.doc.0 < version.doc.0)
+        ⊎ ((change.doc.0 ≡ version.doc.0) × (change.at.seconds < version.at.seconds))) }
 {
     change.doc.0 < version.doc.0
         || change.doc.0 == version.doc.0 && change.at.seconds < version.at.seconds

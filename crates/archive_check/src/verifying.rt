@@ -79,7 +79,8 @@ pub fn verify<D: Disk>(
     ensures failed { IsErrOf result VerifyError.Failed → Rose (D.disk disk.old).faults (D.disk disk.new).faults }
     ensures unasked { length plans.now ≡ 0 → (result ≡ Ok (Verdict.Sound 0 0)) × (disk.new ≡ disk.old) }
     // By what reads give, and where texts and sublists lie.
-    ensures verdict { D.disk_tells → IfOk result (IsVerdict (D.disk disk.old).holds.journal directory.now.changes (D.disk disk.old).holds.pages plans.now) }
+    ensures verdict { D.disk_tells
+        → IfOk result (IsVerdict (D.disk disk.old).holds.journal directory.now.changes (D.disk disk.old).holds.pages plans.now) }
 {
     let checked = check(alloc, disk, Digests::Unasked, journal, directory, plans)?;
     Ok(checked.verdict)
@@ -106,7 +107,8 @@ pub fn verify_with_digests<D: Disk>(
     ensures same { OnlyReads (D.disk disk.old) (D.disk disk.new) }
     ensures failed { IsErrOf result VerifyError.Failed → Rose (D.disk disk.old).faults (D.disk disk.new).faults }
     // By what reads give, and by where texts and sublists lie and which digests they have.
-    ensures finding { D.disk_tells → IfOk result (IsFinding (D.disk disk.old).holds.journal directory.now.changes (D.disk disk.old).holds.pages plans.now) }
+    ensures finding { D.disk_tells
+        → IfOk result (IsFinding (D.disk disk.old).holds.journal directory.now.changes (D.disk disk.old).holds.pages plans.now) }
 {
     let checked = check(alloc, disk, Digests::Asked, journal, directory, plans)?;
     let Checked { verdict, altered } = checked;
@@ -135,8 +137,11 @@ fn check<D: Disk>(
     ensures only { D.Disk.only disk.old disk.new }
     ensures same { OnlyReads (D.disk disk.old) (D.disk disk.new) }
     ensures failed { IsErrOf result VerifyError.Failed → Rose (D.disk disk.old).faults (D.disk disk.new).faults }
-    ensures unasked { length plans.now ≡ 0 → (result ≡ Ok (record { verdict = Verdict.Sound 0 0; altered = None })) × (disk.new ≡ disk.old) }
-    ensures told { D.disk_tells → IfOk result (λ c. TellsAll digests c (with_texts (D.disk disk.old).holds.journal directory.now.changes) (D.disk disk.old).holds.pages plans.now) }
+    ensures unasked { length plans.now ≡ 0 → (result ≡ Ok (record { verdict = Verdict.Sound 0 0; altered = None }))
+        × (disk.new ≡ disk.old) }
+    ensures told { D.disk_tells
+        → IfOk result (λ c. TellsAll digests c (with_texts (D.disk disk.old).holds.journal directory.now.changes)
+        (D.disk disk.old).holds.pages plans.now) }
 {
     if plans.is_empty() {
         return Ok(Checked {
@@ -194,7 +199,8 @@ fn check_plans<D: Disk>(
     ensures failed { IsErrOf result VerifyError.Failed → Rose (D.disk disk.old).faults (D.disk disk.new).faults }
     ensures verdict { D.disk_tells → (texts : List (PlainChange (List ℕ))) → Indexes (state_of index.now) texts → All IsText texts →
         IfOk result (λ c. Says c.verdict texts (D.disk disk.old).holds.pages (map (λ t. t.stored.now) ranked.now)) }
-    ensures altered { D.disk_tells → digests ≡ Digests.Asked → IfOk result (λ c. DigestsTold c (D.disk disk.old).holds.pages (map (λ t. t.stored.now) ranked.now)) }
+    ensures altered { D.disk_tells → digests ≡ Digests.Asked
+        → IfOk result (λ c. DigestsTold c (D.disk disk.old).holds.pages (map (λ t. t.stored.now) ranked.now)) }
 {
     let mut segments = 0;
     let mut altered = None;
@@ -270,8 +276,10 @@ fn test_plan<D: Disk>(
     ensures same { OnlyReads (D.disk disk.old) (D.disk disk.new) }
     ensures failed { IsErrOf result VerifyError.Failed → Rose (D.disk disk.old).faults (D.disk disk.new).faults }
     ensures fault { D.disk_tells → (texts : List (PlainChange (List ℕ))) → Indexes (state_of index.now) texts →
-        IfOk result (λ t. MatchOption t.fault (IsSound texts (D.disk disk.old).holds.pages plan.now) (IsFaultOf texts (D.disk disk.old).holds.pages plan.now)) }
-    ensures altered { D.disk_tells → digests ≡ Digests.Asked → IfOk result (λ t. t.fault ≡ None → AreAltered (D.disk disk.old).holds.pages plan.now.places t.altered) }
+        IfOk result (λ t. MatchOption t.fault (IsSound texts (D.disk disk.old).holds.pages plan.now)
+        (IsFaultOf texts (D.disk disk.old).holds.pages plan.now)) }
+    ensures altered { D.disk_tells → digests ≡ Digests.Asked
+        → IfOk result (λ t. t.fault ≡ None → AreAltered (D.disk disk.old).holds.pages plan.now.places t.altered) }
 {
     let list = list_of(alloc, index, plan)?;
     let looking = Looking {
@@ -324,7 +332,8 @@ fn excess_fault(
 /// The list of a plan's word up to its horizon, by the index of the texts.
 fn list_of(alloc: Global, index: &Index, plan: &PlanEntry) -> Result<Vec<Posting>, AllocError>
     requires texts { (texts : List (PlainChange (List ℕ))) × Indexes (state_of index.now) texts }
-    ensures planned { IfOk result (λ v. (texts : List (PlainChange (List ℕ))) → Indexes (state_of index.now) texts → IsPlanned texts plan.now v.items) }
+    ensures planned { IfOk result (λ v. (texts : List (PlainChange (List ℕ))) → Indexes (state_of index.now) texts
+        → IsPlanned texts plan.now v.items) }
     ensures ordered { IfOk result (λ v. IsList v.items) }
     ensures early { IfOk result (λ v. All (λ p. p.span.to ≤ plan.now.horizon.seconds) v.items) }
 {
@@ -342,7 +351,8 @@ fn excess_in(
     ensures fair { IsErrOf result VerifyError.Failed → ⊥ }
     ensures least { IfOk result (λ o. MatchOption o
         (IsToBeLeast plan.now list.now → IsLeastPlan list.now plan.now.fraction plan.now.cuts plan.now.horizon.seconds)
-        (λ e. (plan.now.kind ≡ Kind.Guarantee) × IsExcess list.now plan.now.fraction plan.now.cuts plan.now.horizon.seconds e.taken e.least)) }
+        (λ e. (plan.now.kind ≡ Kind.Guarantee)
+        × IsExcess list.now plan.now.fraction plan.now.cuts plan.now.horizon.seconds e.taken e.least)) }
 {
     match plan.kind {
         Kind::Guarantee => excess_of(

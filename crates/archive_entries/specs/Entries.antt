@@ -58,7 +58,8 @@ pub record IsNext (history : History) (entry : Entry) (change : Change ℕ) (bod
 
 -- An entry is prepared that may come next after a history, but for the journal's room; or this is why it may not.
 abbrev pub IsPrepared : History → IndexState → Entry → Option Refusal → Result Prepared Declined → Type 0
-IsPrepared history index entry refusal (Ok p) = IsNext history entry p.change p.body.items × IsPreparedFor index (document_of entry) (text_of entry) p.words
+IsPrepared history index entry refusal (Ok p) = IsNext history entry p.change p.body.items
+    × IsPreparedFor index (document_of entry) (text_of entry) p.words
     × (refusal ≡ first_of (full_journal history entry ∷ []))
 IsPrepared history index entry refusal (Err (declines.Refused why)) = refusal ≡ Some why
 IsPrepared history index entry refusal (Err declines.Memory) = Unit {0}

@@ -75,7 +75,8 @@ pub record IsFirstUnfit (history : History) (plans : List StoredPlan) (at : ℕ)
   pub at_is : at ≡ stored.gate
 
 -- these are the changes and the plans of entries that were gone over, this tells whether the mark is among them, and the next gate is at this place
-pub record IsReached (gate : ℕ) (history : History) (changes : List (Change TextPlace)) (plans : List StoredPlan) (marked : Bool) : Type 0 where
+pub record IsReached (gate : ℕ) (history : History) (changes : List (Change TextPlace)) (plans : List StoredPlan)
+    (marked : Bool) : Type 0 where
   pub opens : AreOpen [] history
   pub gate_is : end_of history ≡ gate + 1
   pub placed : ArePlaced first_gate history changes
@@ -96,7 +97,8 @@ pub record HasAhead (history : History) (loader : Loaded) : Type 0 where
 
 -- this body spells an entry that may come behind a history, as far as can be told; these are the changes and the plans with its own, and its text
 -- is loaded
-pub record IsGoneOver (gate : ℕ) (history : History) (body : List ℕ) (changes : List (Change TextPlace)) (plans : List StoredPlan) (marked : Bool) (loader : Loaded) : Type 0 where
+pub record IsGoneOver (gate : ℕ) (history : History) (body : List ℕ) (changes : List (Change TextPlace)) (plans : List StoredPlan)
+    (marked : Bool) (loader : Loaded) : Type 0 where
   pub entry : Entry
   pub spelled : body ≡ spelling entry
   pub reached : IsReached (gate + gate_bytes + length body) (history ++ entry ∷ []) changes plans marked
@@ -104,16 +106,19 @@ pub record IsGoneOver (gate : ℕ) (history : History) (body : List ℕ) (change
 
 -- an entry with its gate at this place that is misspelled or illegal behind a history, which shows at that place
 abbrev pub IsFaulty : ℕ → History → List ℕ → ℕ → Type 0
-IsFaulty gate before body at = ((offset : ℕ) × IsMisspelled body offset × (at ≡ gate + gate_bytes + offset)) ⊎ (IsIllegal before body × (at ≡ gate))
+IsFaulty gate before body at = ((offset : ℕ) × IsMisspelled body offset × (at ≡ gate + gate_bytes + offset))
+    ⊎ (IsIllegal before body × (at ≡ gate))
 
 -- Entries that are gone over while bodies are read one after another: these are their changes and plans, their texts are loaded, and their bodies are
 -- those that were read of the journal, whose heads these are.
-pub record IsReplaying (tells : Type 0) (journal : List ℕ) (heads : List Head) (reader : BodiesState) (changes : List (Change TextPlace)) (plans : List StoredPlan) (marked : Bool) (loader : Loaded) : Type 0 where
+pub record IsReplaying (tells : Type 0) (journal : List ℕ) (heads : List Head) (reader : BodiesState) (changes : List (Change TextPlace))
+    (plans : List StoredPlan) (marked : Bool) (loader : Loaded) : Type 0 where
   pub history : History
   pub reached : IsReached (length (front (bodies_of history))) history changes plans marked
   pub loads : AreLoaded loader (histories.changes history)
   pub behind : AreBehind heads (bodies_of history) reader
-  pub left : tells → (bodies : List (List ℕ)) → heads ≡ heads_of first_gate bodies → Spells journal bodies → (rest : List (List ℕ)) × (bodies ≡ bodies_of history ++ rest) × AreLeft journal reader rest
+  pub left : tells → (bodies : List (List ℕ)) → heads ≡ heads_of first_gate bodies → Spells journal bodies
+      → (rest : List (List ℕ)) × (bodies ≡ bodies_of history ++ rest) × AreLeft journal reader rest
 
 -- the body behind these entries' bodies is misspelled or illegal, which shows at that place
 pub record IsNextBad (before : History) (bodies : List (List ℕ)) (at : ℕ) : Type 0 where
@@ -123,7 +128,8 @@ pub record IsNextBad (before : History) (bodies : List (List ℕ)) (at : ℕ) : 
   pub fault : IsFaulty (length (front (bodies_of before))) before body at
 
 -- Entries that were gone over up to the first body that by itself is misspelled or illegal, which shows at this place.
-pub record IsStopped (tells : Type 0) (journal : List ℕ) (heads : List Head) (plans : List StoredPlan) (loader : Loaded) (at : ℕ) : Type 0 where
+pub record IsStopped (tells : Type 0) (journal : List ℕ) (heads : List Head) (plans : List StoredPlan) (loader : Loaded)
+    (at : ℕ) : Type 0 where
   pub history : History
   pub opens : AreOpen [] history
   pub plans_are : plans ≡ plans_from first_gate history

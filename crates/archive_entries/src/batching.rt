@@ -86,10 +86,13 @@ impl<'a> Gathered<'a> {
         requires end { end ≤ 2 ^ 40 }
         requires counted { AreCounted directory.now.changes self.old.coming }
         ensures same { state_of index.new ≡ state_of index.old }
-        ensures gathered { OnOk result ((count : ℕ) (batch : List Act) → AreGathered directory.now.changes end count batch self.old → AreGathered directory.now.changes end count (batch ++ act_of item.now) self.new) }
-        ensures allowed { OnOk result ((h : History) (count : ℕ) (batch : List Act) → AreOf h directory.now.changes (state_of index.old) end → AreGathered directory.now.changes end count batch self.old → AreAllowed h batch self.old
+        ensures gathered { OnOk result ((count : ℕ) (batch : List Act) → AreGathered directory.now.changes end count batch self.old
+            → AreGathered directory.now.changes end count (batch ++ act_of item.now) self.new) }
+        ensures allowed { OnOk result ((h : History) (count : ℕ) (batch : List Act) → AreOf h directory.now.changes (state_of index.old) end
+            → AreGathered directory.now.changes end count batch self.old → AreAllowed h batch self.old
             → AreAllowed h (batch ++ act_of item.now) self.new × (item_refusal (h ++ singles batch) item.now ≡ None)) }
-        ensures refused { (why : Refusal) → IsErrOf result (Declined.Refused why) → (h : History) (count : ℕ) (batch : List Act) → AreOf h directory.now.changes (state_of index.old) end → AreGathered directory.now.changes end count batch self.old
+        ensures refused { (why : Refusal) → IsErrOf result (Declined.Refused why) → (h : History) (count : ℕ) (batch : List Act)
+            → AreOf h directory.now.changes (state_of index.old) end → AreGathered directory.now.changes end count batch self.old
             → AreAllowed h batch self.old → item_refusal (h ++ singles batch) item.now ≡ Some why }
     {
         match item {
@@ -117,10 +120,14 @@ impl<'a> Gathered<'a> {
         requires short { length text.now ≤ MOST_TEXT_BYTES }
         requires counted { AreCounted directory.now.changes self.old.coming }
         ensures same { state_of index.new ≡ state_of index.old }
-        ensures gathered { OnOk result ((count : ℕ) (batch : List Act) → AreGathered directory.now.changes end count batch self.old → AreGathered directory.now.changes end count (batch ++ acts.Arrive doc at text.now ∷ []) self.new) }
-        ensures allowed { OnOk result ((h : History) (count : ℕ) (batch : List Act) → AreOf h directory.now.changes (state_of index.old) end → AreGathered directory.now.changes end count batch self.old → AreAllowed h batch self.old
-            → AreAllowed h (batch ++ acts.Arrive doc at text.now ∷ []) self.new × (act_refusal (h ++ singles batch) (acts.Arrive doc at text.now) ≡ None)) }
-        ensures refused { (why : Refusal) → IsErrOf result (Declined.Refused why) → (h : History) (count : ℕ) (batch : List Act) → AreOf h directory.now.changes (state_of index.old) end → AreGathered directory.now.changes end count batch self.old
+        ensures gathered { OnOk result ((count : ℕ) (batch : List Act) → AreGathered directory.now.changes end count batch self.old
+            → AreGathered directory.now.changes end count (batch ++ acts.Arrive doc at text.now ∷ []) self.new) }
+        ensures allowed { OnOk result ((h : History) (count : ℕ) (batch : List Act) → AreOf h directory.now.changes (state_of index.old) end
+            → AreGathered directory.now.changes end count batch self.old → AreAllowed h batch self.old
+            → AreAllowed h (batch ++ acts.Arrive doc at text.now ∷ []) self.new
+            × (act_refusal (h ++ singles batch) (acts.Arrive doc at text.now) ≡ None)) }
+        ensures refused { (why : Refusal) → IsErrOf result (Declined.Refused why) → (h : History) (count : ℕ) (batch : List Act)
+            → AreOf h directory.now.changes (state_of index.old) end → AreGathered directory.now.changes end count batch self.old
             → AreAllowed h batch self.old → act_refusal (h ++ singles batch) (acts.Arrive doc at text.now) ≡ Some why }
     {
         let text_at = end + BODY_AT + self.body.len() as u64 + ACT_TEXT_AT;
@@ -151,10 +158,15 @@ impl<'a> Gathered<'a> {
     /// Adds a deletion, if it may come behind the others.
     fn delete(&mut self, directory: &Directory, doc: DocId, at: Time) -> Result<(), Declined>
         requires counted { AreCounted directory.now.changes self.old.coming }
-        ensures gathered { OnOk result ((end count : ℕ) (batch : List Act) → AreGathered directory.now.changes end count batch self.old → AreGathered directory.now.changes end count (batch ++ acts.Delete doc at ∷ []) self.new) }
-        ensures allowed { OnOk result ((h : History) (index : IndexState) (end count : ℕ) (batch : List Act) → AreOf h directory.now.changes index end → AreGathered directory.now.changes end count batch self.old → AreAllowed h batch self.old
+        ensures gathered { OnOk result ((end count : ℕ) (batch : List Act) → AreGathered directory.now.changes end count batch self.old
+            → AreGathered directory.now.changes end count (batch ++ acts.Delete doc at ∷ []) self.new) }
+        ensures allowed { OnOk result ((h : History) (index : IndexState) (end count : ℕ) (batch : List Act)
+            → AreOf h directory.now.changes index end → AreGathered directory.now.changes end count batch self.old
+            → AreAllowed h batch self.old
             → AreAllowed h (batch ++ acts.Delete doc at ∷ []) self.new × (act_refusal (h ++ singles batch) (acts.Delete doc at) ≡ None)) }
-        ensures refused { (why : Refusal) → IsErrOf result (Declined.Refused why) → (h : History) (index : IndexState) (end count : ℕ) (batch : List Act) → AreOf h directory.now.changes index end → AreGathered directory.now.changes end count batch self.old
+        ensures refused { (why : Refusal) → IsErrOf result (Declined.Refused why)
+            → (h : History) (index : IndexState) (end count : ℕ) (batch : List Act) → AreOf h directory.now.changes index end
+            → AreGathered directory.now.changes end count batch self.old
             → AreAllowed h batch self.old → act_refusal (h ++ singles batch) (acts.Delete doc at) ≡ Some why }
     {
         let change = Change {
@@ -188,7 +200,8 @@ impl<'a> Gathered<'a> {
 
 /// The text of an item, or why it is no version's. Costs its length.
 fn content_of(text: &Text) -> Result<&str, Refusal>
-    ensures { MatchResult result (λ t. (t.now ≡ text_held text.now) × (length t.now ≤ most_text) × (text_refusal text.now ≡ None)) (λ why. text_refusal text.now ≡ Some why) }
+    ensures { MatchResult result (λ t. (t.now ≡ text_held text.now) × (length t.now ≤ most_text) × (text_refusal text.now ≡ None))
+        (λ why. text_refusal text.now ≡ Some why) }
 {
     match text {
         Text::Bytes(text) => text_of(text.as_slice()),
@@ -220,7 +233,8 @@ pub fn prepare_batch<'a>(
     ensures fits { IfOk result (λ p. length p.body.items < 2 ^ 32) }
     ensures allowed { IfOk result (λ p. EachMayFollow directory.now.changes (map place_change p.acts.items)) }
     ensures texts { IfOk result (λ p. All HasShortText p.acts.items) }
-    ensures prepared { (h : History) → ArePlaced first_gate h directory.now.changes → Indexes (state_of index.old) (changes h) → marked ≡ is_marked h → end ≡ end_of h → IsPreparedBatch h items.now result }
+    ensures prepared { (h : History) → ArePlaced first_gate h directory.now.changes → Indexes (state_of index.old) (changes h)
+        → marked ≡ is_marked h → end ≡ end_of h → IsPreparedBatch h items.now result }
 {
     if !marked {
         return Err(whole(Refusal::OldFormat));
@@ -284,7 +298,8 @@ pub fn note_all(directory: &mut Directory, acts: &[NextAct])
 /// It costs what `Index::take_in` does for each.
 pub fn take_in_all(alloc: Global, index: &mut Index, acts: &[NextAct]) -> Result<(), NumberError>
     requires texts { All HasShortText acts.now }
-    ensures taken { OnOk result ((h : History) (batch : List Act) → IsLoadable h → entry_refusal h (entries.Batch batch) ≡ None → map text_change acts.now ≡ map change_by batch
+    ensures taken { OnOk result ((h : History) (batch : List Act) → IsLoadable h → entry_refusal h (entries.Batch batch) ≡ None
+        → map text_change acts.now ≡ map change_by batch
         → Indexes (state_of index.old) (changes h) → Indexes (state_of index.new) (changes (h ++ entries.Batch batch ∷ []))) }
 {
     for act in acts {

@@ -17,7 +17,8 @@ pub const ACT_TEXT_AT: u64 = 4 + TEXT_AT;
 
 /// Whether a change may come next, or the first cause why not. It costs one look-up.
 pub(crate) fn may_come(directory: &Directory, change: Change<u32>) -> Result<(), VersionRefusal>
-    ensures { MatchResult result (λ _. change_refusal change directory.now.changes ≡ None) (λ why. change_refusal change directory.now.changes ≡ Some why) }
+    ensures { MatchResult result (λ _. change_refusal change directory.now.changes ≡ None)
+        (λ why. change_refusal change directory.now.changes ≡ Some why) }
 {
     match change.held {
         Some(_) => directory.may_arrive(change.doc, change.at),

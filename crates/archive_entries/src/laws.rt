@@ -25,11 +25,15 @@ ghost use Rattle.archive_entries.specs.Texts.{bare, text_in};
 /// those of the history with that entry; a plan and the mark make none. Does nothing.
 pub fn places_follow_entries()
     ensures alike { (gate : ℕ) (h : History) (cs : List (Change TextPlace)) → ArePlaced gate h cs → map bare cs ≡ map bare (changes h) }
-    ensures texts { (journal : List ℕ) (h : History) (cs : List (Change TextPlace)) → Spells journal (bodies_of h) → ArePlaced first_gate h cs → map (mapped (text_in journal)) cs ≡ changes h }
-    ensures change { (h : History) (cs : List (Change TextPlace)) (e : Entry) (x : Change ℕ) (held : Option TextPlace) (gate : ℕ) → ArePlaced first_gate h cs → end_of h ≡ gate + 1 → Makes e x → IsHeld (gate + (gate_bytes + text_offset)) x.held held →
+    ensures texts { (journal : List ℕ) (h : History) (cs : List (Change TextPlace)) → Spells journal (bodies_of h)
+        → ArePlaced first_gate h cs → map (mapped (text_in journal)) cs ≡ changes h }
+    ensures change { (h : History) (cs : List (Change TextPlace)) (e : Entry) (x : Change ℕ) (held : Option TextPlace) (gate : ℕ)
+        → ArePlaced first_gate h cs → end_of h ≡ gate + 1 → Makes e x → IsHeld (gate + (gate_bytes + text_offset)) x.held held →
         ArePlaced first_gate (h ++ e ∷ []) (cs ++ record { doc = x.doc; at = x.at; held = held } ∷ []) }
-    ensures plan { (h : History) (cs : List (Change TextPlace)) (plan : PlanEntry) → ArePlaced first_gate h cs → ArePlaced first_gate (h ++ entries.Planned plan ∷ []) cs }
-    ensures mark { (h : History) (cs : List (Change TextPlace)) → ArePlaced first_gate h cs → ArePlaced first_gate (h ++ entries.Format ∷ []) cs }
+    ensures plan { (h : History) (cs : List (Change TextPlace)) (plan : PlanEntry) → ArePlaced first_gate h cs
+        → ArePlaced first_gate (h ++ entries.Planned plan ∷ []) cs }
+    ensures mark { (h : History) (cs : List (Change TextPlace)) → ArePlaced first_gate h cs
+        → ArePlaced first_gate (h ++ entries.Format ∷ []) cs }
 {}
 
 /// The changes of a history have its words, and its words' lists. An entry that is not refused behind a
@@ -39,7 +43,8 @@ pub fn changes_follow_entries()
     ensures words { (h : History) → vocabulary h ≡ index.words_in (changes h) }
     ensures list { (h : History) (word : List ℕ) (list : List Posting) → index.IsWordList (changes h) word list → IsWordList h word list }
     ensures change { (h : History) (e : Entry) (x : Change ℕ) → IsLoadable h → entry_refusal h e ≡ None → Makes e x →
-        IsNoPlan e × (changes (h ++ e ∷ []) ≡ changes h ++ record { doc = x.doc; at = x.at; held = text_of e } ∷ []) × ComesLater (changes h) (record { doc = x.doc; at = x.at; held = text_of e }) }
+        IsNoPlan e × (changes (h ++ e ∷ []) ≡ changes h ++ record { doc = x.doc; at = x.at; held = text_of e } ∷ [])
+        × ComesLater (changes h) (record { doc = x.doc; at = x.at; held = text_of e }) }
     ensures plan { (h : History) (plan : PlanEntry) → changes (h ++ entries.Planned plan ∷ []) ≡ changes h }
     ensures mark { (h : History) → changes (h ++ entries.Format ∷ []) ≡ changes h }
 {}

@@ -40,7 +40,8 @@ pub fn put_live(live: &mut Vec<StoredPlan>, stored: StoredPlan) -> Option<Stored
     requires once { EachOnce live.old.items }
     ensures live { live.new.items ≡ with_plan live.old.items stored }
     ensures once { EachOnce live.new.items }
-    ensures old { MatchOption result (live.new.items ≡ live.old.items ++ stored ∷ []) (λ s. (front : List PlainStored) × (back : List PlainStored)
+    ensures old { MatchOption result (live.new.items ≡ live.old.items ++ stored ∷ []) (λ s. (front : List PlainStored)
+        × (back : List PlainStored)
         × (live.old.items ≡ front ++ s ∷ back) × (live.new.items ≡ (front ++ back) ++ stored ∷ [])) }
 {
     let old = match position_of(live, &stored.plan.word) {

@@ -95,12 +95,17 @@ pub fn replay<D: Disk>(
     ensures same { OnlyReads (D.disk disk.old) (D.disk disk.new) }
     ensures unread { D.disk_tells → (D.disk disk.new).bytes_read.pages ≡ (D.disk disk.old).bytes_read.pages }
     ensures failed { IsErrOf result LoadError.Failed → Rose (D.disk disk.old).faults (D.disk disk.new).faults }
-    ensures stands { IfOk result (λ r. (h : History) × IsReplayed h heads.now r.directory.changes r.plans.items × Indexes (state_of r.index) (changes h) × (r.marked ≡ is_marked h)) }
-    ensures counted { IfOk result (λ r. (h : History) → IsReplayed h heads.now r.directory.changes r.plans.items → (journal.now.end ≡ end_of h) × (length heads.now ≡ length h)) }
+    ensures stands { IfOk result (λ r. (h : History) × IsReplayed h heads.now r.directory.changes r.plans.items
+        × Indexes (state_of r.index) (changes h) × (r.marked ≡ is_marked h)) }
+    ensures counted { IfOk result (λ r. (h : History) → IsReplayed h heads.now r.directory.changes r.plans.items
+        → (journal.now.end ≡ end_of h) × (length heads.now ≡ length h)) }
     ensures once { IfOk result (λ r. EachOnce r.plans.items) }
-    ensures found { D.disk_tells → (bodies : List (List ℕ)) → heads.now ≡ heads_of first_gate bodies → Spells (D.disk disk.old).holds.journal bodies →
-        IfOk result (λ r. (h : History) × IsReplayed h heads.now r.directory.changes r.plans.items × Indexes (state_of r.index) (changes h) × (bodies_of h ≡ bodies) × (r.marked ≡ is_marked h)) }
-    ensures bad { D.disk_tells → (bodies : List (List ℕ)) → heads.now ≡ heads_of first_gate bodies → Spells (D.disk disk.old).holds.journal bodies →
+    ensures found { D.disk_tells → (bodies : List (List ℕ)) → heads.now ≡ heads_of first_gate bodies
+        → Spells (D.disk disk.old).holds.journal bodies →
+        IfOk result (λ r. (h : History) × IsReplayed h heads.now r.directory.changes r.plans.items × Indexes (state_of r.index) (changes h)
+        × (bodies_of h ≡ bodies) × (r.marked ≡ is_marked h)) }
+    ensures bad { D.disk_tells → (bodies : List (List ℕ)) → heads.now ≡ heads_of first_gate bodies
+        → Spells (D.disk disk.old).holds.journal bodies →
         (at : ℕ) → IsErrOf result (LoadError.NotArchive at) → IsBadAmong bodies at }
 {
     let mut met = Met::new(alloc)?;
@@ -147,10 +152,14 @@ fn go_over<D: Disk>(
     ensures unread { D.disk_tells → (D.disk disk.new).bytes_read.pages ≡ (D.disk disk.old).bytes_read.pages }
     ensures failed { IsErrOf result LoadError.Failed → Rose (D.disk disk.old).faults (D.disk disk.new).faults }
     ensures fair { (at : ℕ) → IsErrOf result (LoadError.NotArchive at) → ⊥ }
-    ensures whole { result ≡ Ok None → (reader : BodiesState) × IsReplaying D.disk_tells (D.disk disk.old).holds.journal heads.now reader met.new.directory.changes met.new.plans.items met.new.marked (loaded met.new.loader)
+    ensures whole { result ≡ Ok None
+        → (reader : BodiesState)
+        × IsReplaying D.disk_tells (D.disk disk.old).holds.journal heads.now reader met.new.directory.changes met.new.plans.items
+        met.new.marked (loaded met.new.loader)
         × (reader.left ≡ []) }
     ensures loads { IfOk result (λ _. (h : History) × Loads met.new.loader (changes h)) }
-    ensures stopped { (at : ℕ) → result ≡ Ok (Some at) → IsStopped D.disk_tells (D.disk disk.old).holds.journal heads.now met.new.plans.items (loaded met.new.loader) at }
+    ensures stopped { (at : ℕ) → result ≡ Ok (Some at)
+        → IsStopped D.disk_tells (D.disk disk.old).holds.journal heads.now met.new.plans.items (loaded met.new.loader) at }
 {
     let mut bodies = journal.bodies(alloc, heads);
     while let Some(head) = bodies.next(disk)? {
@@ -169,13 +178,18 @@ fn apply(alloc: Global, met: &mut Met, head: &Head, body: &[u8]) -> Result<(), L
     requires within { head.now.body + head.now.bytes < 2 ^ 40 }
     requires len { length body.now ≡ head.now.bytes }
     ensures fair { IsErrOf result LoadError.Failed → ⊥ }
-    ensures more { (h : History) → IsReached head.now.gate h met.old.directory.changes met.old.plans.items met.old.marked → Loads met.old.loader (changes h) →
-        OnOk result (IsGoneOver head.now.gate h body.now met.new.directory.changes met.new.plans.items met.new.marked (loaded met.new.loader)) }
-    ensures bad { (h : History) → IsReached head.now.gate h met.old.directory.changes met.old.plans.items met.old.marked → Loads met.old.loader (changes h) →
+    ensures more { (h : History) → IsReached head.now.gate h met.old.directory.changes met.old.plans.items met.old.marked
+        → Loads met.old.loader (changes h) →
+        OnOk result (IsGoneOver head.now.gate h body.now met.new.directory.changes met.new.plans.items met.new.marked
+        (loaded met.new.loader)) }
+    ensures bad { (h : History) → IsReached head.now.gate h met.old.directory.changes met.old.plans.items met.old.marked
+        → Loads met.old.loader (changes h) →
         (at : ℕ) → IsErrOf result (LoadError.NotArchive at) → IsFaulty head.now.gate h body.now at }
     // Where it isn't added, nothing but the first acts of a batch is.
-    ensures left { (h : History) → IsReached head.now.gate h met.old.directory.changes met.old.plans.items met.old.marked → Loads met.old.loader (changes h) →
-        (at : ℕ) → IsErrOf result (LoadError.NotArchive at) → (met.new.plans.items ≡ met.old.plans.items) × HasAhead h (loaded met.new.loader) }
+    ensures left { (h : History) → IsReached head.now.gate h met.old.directory.changes met.old.plans.items met.old.marked
+        → Loads met.old.loader (changes h) →
+        (at : ℕ) → IsErrOf result (LoadError.NotArchive at) → (met.new.plans.items ≡ met.old.plans.items)
+        × HasAhead h (loaded met.new.loader) }
 {
     match decode(alloc, body) {
         Ok(entry) => apply_entry(alloc, met, head, entry),
@@ -191,13 +205,18 @@ fn apply_entry(alloc: Global, met: &mut Met, head: &Head, entry: Entry) -> Resul
     requires ranges { IsEntry entry }
     requires long { length (spelling entry) ≡ head.now.bytes }
     ensures fair { IsErrOf result LoadError.Failed → ⊥ }
-    ensures more { (h : History) → IsReached head.now.gate h met.old.directory.changes met.old.plans.items met.old.marked → Loads met.old.loader (changes h) →
-        OnOk result (IsGoneOver head.now.gate h (spelling entry) met.new.directory.changes met.new.plans.items met.new.marked (loaded met.new.loader)) }
-    ensures bad { (h : History) → IsReached head.now.gate h met.old.directory.changes met.old.plans.items met.old.marked → Loads met.old.loader (changes h) →
+    ensures more { (h : History) → IsReached head.now.gate h met.old.directory.changes met.old.plans.items met.old.marked
+        → Loads met.old.loader (changes h) →
+        OnOk result (IsGoneOver head.now.gate h (spelling entry) met.new.directory.changes met.new.plans.items met.new.marked
+        (loaded met.new.loader)) }
+    ensures bad { (h : History) → IsReached head.now.gate h met.old.directory.changes met.old.plans.items met.old.marked
+        → Loads met.old.loader (changes h) →
         (at : ℕ) → IsErrOf result (LoadError.NotArchive at) → IsFaulty head.now.gate h (spelling entry) at }
     // Where it isn't added, nothing but the first acts of a batch is.
-    ensures left { (h : History) → IsReached head.now.gate h met.old.directory.changes met.old.plans.items met.old.marked → Loads met.old.loader (changes h) →
-        (at : ℕ) → IsErrOf result (LoadError.NotArchive at) → (met.new.plans.items ≡ met.old.plans.items) × HasAhead h (loaded met.new.loader) }
+    ensures left { (h : History) → IsReached head.now.gate h met.old.directory.changes met.old.plans.items met.old.marked
+        → Loads met.old.loader (changes h) →
+        (at : ℕ) → IsErrOf result (LoadError.NotArchive at) → (met.new.plans.items ≡ met.old.plans.items)
+        × HasAhead h (loaded met.new.loader) }
 {
     match entry {
         Entry::Arrive { doc, at, text } => {
@@ -233,15 +252,21 @@ fn apply_change(
 ) -> Result<(), LoadError>
     requires place { head.now.body ≡ head.now.gate + gate_bytes }
     requires within { head.now.body + head.now.bytes < 2 ^ 40 }
-    requires makes { (entry : PlainEntry) × IsEntry entry × Makes entry change × (option_map (λ t. t.now) text ≡ text_of entry) × (length (spelling entry) ≡ head.now.bytes) }
+    requires makes { (entry : PlainEntry) × IsEntry entry × Makes entry change × (option_map (λ t. t.now) text ≡ text_of entry)
+        × (length (spelling entry) ≡ head.now.bytes) }
     ensures fair { IsErrOf result LoadError.Failed → ⊥ }
-    ensures more { (h : History) (entry : PlainEntry) → IsReached head.now.gate h met.old.directory.changes met.old.plans.items met.old.marked → Loads met.old.loader (changes h) →
+    ensures more { (h : History) (entry : PlainEntry)
+        → IsReached head.now.gate h met.old.directory.changes met.old.plans.items met.old.marked → Loads met.old.loader (changes h) →
         IsEntry entry → Makes entry change → option_map (λ t. t.now) text.entry ≡ text_of entry →
-        OnOk result (IsGoneOver head.now.gate h (spelling entry) met.new.directory.changes met.new.plans.items met.new.marked (loaded met.new.loader)) }
-    ensures bad { (h : History) (entry : PlainEntry) → IsReached head.now.gate h met.old.directory.changes met.old.plans.items met.old.marked → Loads met.old.loader (changes h) →
+        OnOk result (IsGoneOver head.now.gate h (spelling entry) met.new.directory.changes met.new.plans.items met.new.marked
+        (loaded met.new.loader)) }
+    ensures bad { (h : History) (entry : PlainEntry)
+        → IsReached head.now.gate h met.old.directory.changes met.old.plans.items met.old.marked → Loads met.old.loader (changes h) →
         IsEntry entry → Makes entry change → option_map (λ t. t.now) text.entry ≡ text_of entry →
         (at : ℕ) → IsErrOf result (LoadError.NotArchive at) → IsFaulty head.now.gate h (spelling entry) at }
-    ensures kept { (at : ℕ) → IsErrOf result (LoadError.NotArchive at) → (met.new.directory.changes ≡ met.old.directory.changes) × (met.new.plans.items ≡ met.old.plans.items) × (met.new.marked ≡ met.old.marked) × (loaded met.new.loader ≡ loaded met.old.loader) }
+    ensures kept { (at : ℕ) → IsErrOf result (LoadError.NotArchive at) → (met.new.directory.changes ≡ met.old.directory.changes)
+        × (met.new.plans.items ≡ met.old.plans.items) × (met.new.marked ≡ met.old.marked)
+        × (loaded met.new.loader ≡ loaded met.old.loader) }
 {
     add_change(alloc, met, head.gate, head.body + TEXT_AT, change, text)
 }
@@ -253,12 +278,17 @@ fn apply_batch(alloc: Global, met: &mut Met, head: &Head, acts: &[Act]) -> Resul
     requires ranges { IsBatch acts.now }
     requires long { length (spelling (entries.Batch acts.now)) ≡ head.now.bytes }
     ensures fair { IsErrOf result LoadError.Failed → ⊥ }
-    ensures more { (h : History) → IsReached head.now.gate h met.old.directory.changes met.old.plans.items met.old.marked → Loads met.old.loader (changes h) →
-        OnOk result (IsGoneOver head.now.gate h (spelling (entries.Batch acts.now)) met.new.directory.changes met.new.plans.items met.new.marked (loaded met.new.loader)) }
-    ensures bad { (h : History) → IsReached head.now.gate h met.old.directory.changes met.old.plans.items met.old.marked → Loads met.old.loader (changes h) →
+    ensures more { (h : History) → IsReached head.now.gate h met.old.directory.changes met.old.plans.items met.old.marked
+        → Loads met.old.loader (changes h) →
+        OnOk result (IsGoneOver head.now.gate h (spelling (entries.Batch acts.now)) met.new.directory.changes met.new.plans.items
+        met.new.marked (loaded met.new.loader)) }
+    ensures bad { (h : History) → IsReached head.now.gate h met.old.directory.changes met.old.plans.items met.old.marked
+        → Loads met.old.loader (changes h) →
         (at : ℕ) → IsErrOf result (LoadError.NotArchive at) → IsFaulty head.now.gate h (spelling (entries.Batch acts.now)) at }
-    ensures left { (h : History) → IsReached head.now.gate h met.old.directory.changes met.old.plans.items met.old.marked → Loads met.old.loader (changes h) →
-        (at : ℕ) → IsErrOf result (LoadError.NotArchive at) → (met.new.plans.items ≡ met.old.plans.items) × HasAhead h (loaded met.new.loader) }
+    ensures left { (h : History) → IsReached head.now.gate h met.old.directory.changes met.old.plans.items met.old.marked
+        → Loads met.old.loader (changes h) →
+        (at : ℕ) → IsErrOf result (LoadError.NotArchive at) → (met.new.plans.items ≡ met.old.plans.items)
+        × HasAhead h (loaded met.new.loader) }
 {
     if !met.marked || texts_bytes(acts) > MOST_BATCH_BYTES {
         return Err(LoadError::NotArchive { at: head.gate });
@@ -289,8 +319,10 @@ fn apply_act(alloc: Global, met: &mut Met, gate: u64, at: u64, act: &Act) -> Res
     requires ranges { IsAct act.now }
     ensures fair { IsErrOf result LoadError.Failed → ⊥ }
     ensures more { (h : History) → AreMet h met.old.directory.changes (loaded met.old.loader) →
-        OnOk result ((entry_refusal h (alone act.now) ≡ None) × AreMet (h ++ alone act.now ∷ []) met.new.directory.changes (loaded met.new.loader)) }
-    ensures placed { OnOk result (map (mapped pair_of) met.new.directory.changes ≡ map (mapped pair_of) met.old.directory.changes ++ placed_act at act.now ∷ []) }
+        OnOk result ((entry_refusal h (alone act.now) ≡ None)
+        × AreMet (h ++ alone act.now ∷ []) met.new.directory.changes (loaded met.new.loader)) }
+    ensures placed { OnOk result (map (mapped pair_of) met.new.directory.changes ≡ map (mapped pair_of) met.old.directory.changes
+        ++ placed_act at act.now ∷ []) }
     ensures bad { (h : History) → AreMet h met.old.directory.changes (loaded met.old.loader) →
         (place : ℕ) → IsErrOf result (LoadError.NotArchive place) → (place ≡ gate) × (entry_refusal h (alone act.now) ≡ None → ⊥) }
     ensures others { (met.new.plans.items ≡ met.old.plans.items) × (met.new.marked ≡ met.old.marked) }
@@ -333,14 +365,17 @@ fn add_change(
 ) -> Result<(), LoadError>
     requires makes { (entry : PlainEntry) × IsEntry entry × Makes entry change × (option_map (λ t. t.now) text ≡ text_of entry) }
     ensures fair { IsErrOf result LoadError.Failed → ⊥ }
-    ensures more { (h : History) (entry : PlainEntry) → AreMet h met.old.directory.changes (loaded met.old.loader) → Makes entry change → option_map (λ t. t.now) text.entry ≡ text_of entry →
+    ensures more { (h : History) (entry : PlainEntry) → AreMet h met.old.directory.changes (loaded met.old.loader) → Makes entry change
+        → option_map (λ t. t.now) text.entry ≡ text_of entry →
         OnOk result ((entry_refusal h entry ≡ None) × AreMet (h ++ entry ∷ []) met.new.directory.changes (loaded met.new.loader)) }
     ensures placed { OnOk result ((held : Option TextPlace) × IsHeld text_at change.held held
         × (met.new.directory.changes ≡ met.old.directory.changes ++ record { doc = change.doc; at = change.at; held = held } ∷ [])) }
-    ensures bad { (h : History) (entry : PlainEntry) → AreMet h met.old.directory.changes (loaded met.old.loader) → Makes entry change → option_map (λ t. t.now) text.entry ≡ text_of entry →
+    ensures bad { (h : History) (entry : PlainEntry) → AreMet h met.old.directory.changes (loaded met.old.loader) → Makes entry change
+        → option_map (λ t. t.now) text.entry ≡ text_of entry →
         (at : ℕ) → IsErrOf result (LoadError.NotArchive at) → (at ≡ gate) × (entry_refusal h entry ≡ None → ⊥) }
     ensures others { (met.new.plans.items ≡ met.old.plans.items) × (met.new.marked ≡ met.old.marked) }
-    ensures kept { (at : ℕ) → IsErrOf result (LoadError.NotArchive at) → (met.new.directory.changes ≡ met.old.directory.changes) × (loaded met.new.loader ≡ loaded met.old.loader) }
+    ensures kept { (at : ℕ) → IsErrOf result (LoadError.NotArchive at) → (met.new.directory.changes ≡ met.old.directory.changes)
+        × (loaded met.new.loader ≡ loaded met.old.loader) }
 {
     match may_come(&met.directory, change) {
         Ok(()) => {}
@@ -361,11 +396,15 @@ fn apply_plan(met: &mut Met, head: &Head, plan: PlanEntry) -> Result<(), LoadErr
     requires ranges { IsEntry (entries.Planned plan) }
     requires long { length (spelling (entries.Planned plan)) ≡ head.now.bytes }
     ensures fair { IsErrOf result LoadError.Failed → ⊥ }
-    ensures more { (h : History) → IsReached head.now.gate h met.old.directory.changes met.old.plans.items met.old.marked → Loads met.old.loader (changes h) →
-        OnOk result (IsGoneOver head.now.gate h (spelling (entries.Planned plan)) met.new.directory.changes met.new.plans.items met.new.marked (loaded met.new.loader)) }
+    ensures more { (h : History) → IsReached head.now.gate h met.old.directory.changes met.old.plans.items met.old.marked
+        → Loads met.old.loader (changes h) →
+        OnOk result (IsGoneOver head.now.gate h (spelling (entries.Planned plan)) met.new.directory.changes met.new.plans.items
+        met.new.marked (loaded met.new.loader)) }
     ensures bad { (h : History) → IsReached head.now.gate h met.old.directory.changes met.old.plans.items met.old.marked →
         (at : ℕ) → IsErrOf result (LoadError.NotArchive at) → IsFaulty head.now.gate h (spelling (entries.Planned plan)) at }
-    ensures kept { (at : ℕ) → IsErrOf result (LoadError.NotArchive at) → (met.new.directory.changes ≡ met.old.directory.changes) × (met.new.plans.items ≡ met.old.plans.items) × (met.new.marked ≡ met.old.marked) × (loaded met.new.loader ≡ loaded met.old.loader) }
+    ensures kept { (at : ℕ) → IsErrOf result (LoadError.NotArchive at) → (met.new.directory.changes ≡ met.old.directory.changes)
+        × (met.new.plans.items ≡ met.old.plans.items) × (met.new.marked ≡ met.old.marked)
+        × (loaded met.new.loader ≡ loaded met.old.loader) }
 {
     if !is_timely(&met.directory, &plan) {
         return Err(LoadError::NotArchive { at: head.gate });
@@ -382,11 +421,15 @@ fn apply_plan(met: &mut Met, head: &Head, plan: PlanEntry) -> Result<(), LoadErr
 fn apply_mark(met: &mut Met, head: &Head) -> Result<(), LoadError>
     requires long { length (spelling entries.Format) ≡ head.now.bytes }
     ensures fair { IsErrOf result LoadError.Failed → ⊥ }
-    ensures more { (h : History) → IsReached head.now.gate h met.old.directory.changes met.old.plans.items met.old.marked → Loads met.old.loader (changes h) →
-        OnOk result (IsGoneOver head.now.gate h (spelling entries.Format) met.new.directory.changes met.new.plans.items met.new.marked (loaded met.new.loader)) }
+    ensures more { (h : History) → IsReached head.now.gate h met.old.directory.changes met.old.plans.items met.old.marked
+        → Loads met.old.loader (changes h) →
+        OnOk result (IsGoneOver head.now.gate h (spelling entries.Format) met.new.directory.changes met.new.plans.items met.new.marked
+        (loaded met.new.loader)) }
     ensures bad { (h : History) → IsReached head.now.gate h met.old.directory.changes met.old.plans.items met.old.marked →
         (at : ℕ) → IsErrOf result (LoadError.NotArchive at) → IsFaulty head.now.gate h (spelling entries.Format) at }
-    ensures kept { (at : ℕ) → IsErrOf result (LoadError.NotArchive at) → (met.new.directory.changes ≡ met.old.directory.changes) × (met.new.plans.items ≡ met.old.plans.items) × (met.new.marked ≡ met.old.marked) × (loaded met.new.loader ≡ loaded met.old.loader) }
+    ensures kept { (at : ℕ) → IsErrOf result (LoadError.NotArchive at) → (met.new.directory.changes ≡ met.old.directory.changes)
+        × (met.new.plans.items ≡ met.old.plans.items) × (met.new.marked ≡ met.old.marked)
+        × (loaded met.new.loader ≡ loaded met.old.loader) }
 {
     if met.marked {
         return Err(LoadError::NotArchive { at: head.gate });
@@ -418,7 +461,8 @@ fn first_unfit(alloc: Global, index: &Index, plans: &[StoredPlan]) -> Result<Opt
     ensures fair { IsErrOf result LoadError.Failed → ⊥ }
     ensures only_memory { (at : ℕ) → IsErrOf result (LoadError.NotArchive at) → ⊥ }
     ensures none { IfOk result (λ o. o ≡ None → (h : History) → Indexes (state_of index.now) (changes h) → All (IsFitIn h) plans.now) }
-    ensures first { IfOk result (λ o. (at : ℕ) → o ≡ Some at → (h : History) → Indexes (state_of index.now) (changes h) → IsFirstUnfit h plans.now at) }
+    ensures first { IfOk result (λ o. (at : ℕ) → o ≡ Some at → (h : History) → Indexes (state_of index.now) (changes h)
+        → IsFirstUnfit h plans.now at) }
 {
     for stored in plans {
         if !fits(alloc, index, stored)? {

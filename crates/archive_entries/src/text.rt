@@ -9,7 +9,8 @@ use std::str;
 
 /// The text of these bytes, or why they are no version's. Costs their length.
 pub(crate) fn text_of(bytes: &[u8]) -> Result<&str, Refusal>
-    ensures { MatchResult result (λ text. (length bytes.now ≤ MOST_TEXT_BYTES) × IsUtf8 bytes.now × (text.now ≡ bytes.now)) (λ why. first_of (too_long bytes.now ∷ bad_text bytes.now ∷ []) ≡ Some why) }
+    ensures { MatchResult result (λ text. (length bytes.now ≤ MOST_TEXT_BYTES) × IsUtf8 bytes.now × (text.now ≡ bytes.now))
+        (λ why. first_of (too_long bytes.now ∷ bad_text bytes.now ∷ []) ≡ Some why) }
 {
     if bytes.len() > MOST_TEXT_BYTES {
         return Err(Refusal::TooLong {

@@ -27,8 +27,10 @@ pub record IsMore (old new : ArchiveState) (change : Change ℕ) (body : List �
   pub changes_are : new.changes ≡ old.changes ++ record { doc = change.doc; at = change.at; held = held } ∷ []
   pub shelf_is : new.shelf ≡ old.shelf
   pub marked_is : new.marked ≡ old.marked
-  pub indexed : (texts : List (Change (List ℕ))) (doc : DocId) (text : Option (List ℕ)) → Indexes old.index texts → IsPreparedFor old.index doc text words
-      → ComesLater texts (record { doc = doc; at = change.at; held = text }) → Indexes new.index (texts ++ record { doc = doc; at = change.at; held = text } ∷ [])
+  pub indexed : (texts : List (Change (List ℕ))) (doc : DocId) (text : Option (List ℕ)) → Indexes old.index texts
+      → IsPreparedFor old.index doc text words
+      → ComesLater texts (record { doc = doc; at = change.at; held = text })
+      → Indexes new.index (texts ++ record { doc = doc; at = change.at; held = text } ∷ [])
 
 -- the same plans, the same extents are taken, and the same pages are kept
 pub record HasSameShelf (old new : ShelfState) : Type 0 where

@@ -89,7 +89,12 @@ pub record AreInStep (d : DiskState) (archive : ArchiveState) (history : History
 
 -- what is stored with an entry more, in these pages, by the archive and its disk then
 abbrev pub with_entry : Store → Entry → List ℕ → ArchiveState → DiskState → Store
-with_entry store entry pages archive d = record { history = store.history ++ entry ∷ []; pages = pages; kept = archive.shelf.cache; read = d.bytes_read.pages }
+with_entry store entry pages archive d = record {
+  history = store.history ++ entry ∷ [];
+  pages = pages;
+  kept = archive.shelf.cache;
+  read = d.bytes_read.pages;
+}
 
 -- the same history in the same pages
 abbrev pub with_reads : Store → ArchiveState → DiskState → Store

@@ -68,15 +68,18 @@ Changes old command reply new = CarriesOut old.history command reply new.history
 
 -- what is found by a query at a time, by the lists that are chosen
 abbrev pub MakesAt : Store → Time → Query → Reply → Type 0
-MakesAt store at query reply = (rows : List Row) × (read : ℕ) × IsMadeAt store.history store.pages at.seconds query rows read × (reply ≡ Found rows read)
+MakesAt store at query reply = (rows : List Row) × (read : ℕ) × IsMadeAt store.history store.pages at.seconds query rows read
+    × (reply ≡ Found rows read)
 
 -- the first rows of these
 abbrev pub MakesTop : Store → TopCount → Time → Query → Reply → Type 0
-MakesTop store count at query reply = (rows : List Row) × (read : ℕ) × IsMadeAt store.history store.pages at.seconds query rows read × (reply ≡ Found (take count.number rows) read)
+MakesTop store count at query reply = (rows : List Row) × (read : ℕ) × IsMadeAt store.history store.pages at.seconds query rows read
+    × (reply ≡ Found (take count.number rows) read)
 
 -- what is found over a window, by the lists that are chosen
 abbrev pub MakesOver : Store → Span → Query → Reply → Type 0
-MakesOver store span query reply = (rows : List SpanRow) × (read : ℕ) × IsMadeOver store.history store.pages span.from span.to query rows read × (reply ≡ Spanned rows read)
+MakesOver store span query reply = (rows : List SpanRow) × (read : ℕ)
+    × IsMadeOver store.history store.pages span.from span.to query rows read × (reply ≡ Spanned rows read)
 
 -- what is told of an archive that is checked: the verdict by its texts and the bytes of its places
 abbrev pub TellsVerdict : Store → Reply → Type 0
@@ -100,7 +103,8 @@ AsksOf old a b (Err place) new = new ≡ old
 
 -- what a text is answered, as it is read, and what is asked for
 abbrev pub Answers : (Query → Reply → Type 0) → Store → ℕ → ℕ → List ℕ → Reply → Store → Type 0
-Answers Makes old a b text reply new = (query : Result Query ℕ) × IsRead term_of text query × IsRepliedBy Makes query reply × AsksOf old a b query new
+Answers Makes old a b text reply new = (query : Result Query ℕ) × IsRead term_of text query × IsRepliedBy Makes query reply
+    × AsksOf old a b query new
 
 -- nothing changes but how many bytes were read
 abbrev pub ReadsOn : Store → Store → Type 0
@@ -115,7 +119,8 @@ StoreStep old (items.Command commands.Format) reply new = Changes old commands.F
 StoreStep old (items.Command (commands.Batch batch)) reply new = Changes old (commands.Batch batch) reply new
 StoreStep old (items.Command (commands.Plan word kind fraction)) reply new = Changes old (commands.Plan word kind fraction) reply new
 StoreStep old (items.Command (commands.Find at expr)) reply new = Answers (MakesAt old at) old at.seconds (at.seconds + 1) expr reply new
-StoreStep old (items.Command (commands.Top count at expr)) reply new = Answers (MakesTop old count at) old at.seconds (at.seconds + 1) expr reply new
+StoreStep old (items.Command (commands.Top count at expr)) reply new = Answers (MakesTop old count at) old at.seconds
+    (at.seconds + 1) expr reply new
 StoreStep old (items.Command (commands.Between span expr)) reply new = Answers (MakesOver old span) old span.from span.to expr reply new
 StoreStep old (items.Command (commands.Show doc at)) reply new = ReadsOn old new × (reply ≡ Version (text_at old.history doc at.seconds))
 StoreStep old (items.Command (commands.Propose word fraction)) reply new = (new ≡ old) × Proposes old.history word fraction reply

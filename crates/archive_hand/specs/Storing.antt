@@ -68,7 +68,8 @@ IsOutside old ranges pages = (was : Bytes) × MayLeave old.now was × SameOutsid
 -- a stop came before the entry: each image left since has the journal as it was, and other bytes only where the sublists are to be
 pub record IsBegun (bodies : List (List ℕ)) (pieces : List Piece) (old new : DiskState) : Type 0 where
   pub goes_on : GoesOn old new
-  pub images : LeavesOnly old new (λ image beside. Spells image.journal bodies × IsOutside old (ranges_of pieces) image.pages × (beside ≡ old.now.beside))
+  pub images : LeavesOnly old new (λ image beside. Spells image.journal bodies × IsOutside old (ranges_of pieces) image.pages
+      × (beside ≡ old.now.beside))
 
 -- the sublists stand in these pages: each image left since is as before the entry, or it has the entry and these pages
 pub record IsPutDown (bodies : List (List ℕ)) (frame : List ℕ) (pieces : List Piece) (pages : List ℕ) (old new : DiskState) : Type 0 where
@@ -81,7 +82,8 @@ pub record IsPutDown (bodies : List (List ℕ)) (frame : List ℕ) (pieces : Lis
 
 -- all is put down, and each image has the pages that reads give
 abbrev pub HasPutDown : List (List ℕ) → List ℕ → List Piece → DiskState → DiskState → Type 0
-HasPutDown bodies frame pieces old new = IsPutDown bodies frame pieces new.holds.pages old new × ((image : Bytes) → MayLeave new.now image → image.pages ≡ new.holds.pages)
+HasPutDown bodies frame pieces old new = IsPutDown bodies frame pieces new.holds.pages old new
+    × ((image : Bytes) → MayLeave new.now image → image.pages ≡ new.holds.pages)
 
 -- the disk failed before the entry, or within it
 abbrev pub HasStopped : List (List ℕ) → List ℕ → List Piece → DiskState → DiskState → Type 0

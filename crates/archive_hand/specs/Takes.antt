@@ -25,7 +25,9 @@ pub record Comes (store : Store) (item : Item) (reply : Reply) (next : Store) (o
 -- What a call does for an item. Where it replies, that is an outcome, and the archive is in step with what came of it. Where memory ran out, or a
 -- sublist is damaged (the first of what is read for the item), all is as it was. Where the disk failed, it is so, or there is an outcome.
 abbrev pub TakesBy : Store → Item → Ending → DiskState → DiskState → ArchiveState → Type 0
-TakesBy store item (Replied reply) old new archive_now = (next : Store) × Comes store item reply next old new × AreInStepBy new archive_now next
+TakesBy store item (Replied reply) old new archive_now = (next : Store) × Comes store item reply next old new
+    × AreInStepBy new archive_now next
 TakesBy store item Starved old new archive_now = KeepsBy store old new
-TakesBy store item Faulted old new archive_now = KeepsBy store old new ⊎ ((reply : Reply) × (next : Store) × Comes store item reply next old new)
+TakesBy store item Faulted old new archive_now = KeepsBy store old new
+    ⊎ ((reply : Reply) × (next : Store) × Comes store item reply next old new)
 TakesBy store item (Spoiled damage) old new archive_now = KeepsBy store old new × Spoils store item damage × (new.holds.pages ≡ store.pages)

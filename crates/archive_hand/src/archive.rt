@@ -44,11 +44,27 @@ impl Model for Archive {
 
     ghost Value = { ArchiveState };
 
-    ghost view = { λ a. record { end = a.journal.end; live = a.live; length = a.entries; changes = a.directory.changes; index = state_of a.index; shelf = a.shelf; marked = a.marked } };
+    ghost view = { λ a. record {
+      end = a.journal.end;
+      live = a.live;
+      length = a.entries;
+      changes = a.directory.changes;
+      index = state_of a.index;
+      shelf = a.shelf;
+      marked = a.marked;
+    } };
 
     // It stands for a history, which it shows on any disk; one that is spent within a batch but for what it tells of words.
     ghost invariant = { λ a. (IsTrue a.live → IsTrue a.journal.live) × (a.entries + new_bytes ≤ a.journal.end)
-        × IsSound (record { end = a.journal.end; live = a.live; length = a.entries; changes = a.directory.changes; index = state_of a.index; shelf = a.shelf; marked = a.marked }) };
+        × IsSound (record {
+          end = a.journal.end;
+          live = a.live;
+          length = a.entries;
+          changes = a.directory.changes;
+          index = state_of a.index;
+          shelf = a.shelf;
+          marked = a.marked;
+        }) };
 }
 
 impl Archive {
@@ -63,8 +79,25 @@ impl Archive {
         marked: bool,
     ) -> Archive
         requires few { entries + new_bytes ≤ journal.end }
-        requires stands { (h : History) × StandsFor (record { end = journal.end; live = journal.live; length = entries; changes = directory.changes; index = state_of index; shelf = shelf; marked = marked }) h }
-        ensures { result ≡ record { end = journal.end; live = journal.live; length = entries; changes = directory.changes; index = state_of index; shelf = shelf; marked = marked } }
+        requires stands { (h : History)
+            × StandsFor (record {
+              end = journal.end;
+              live = journal.live;
+              length = entries;
+              changes = directory.changes;
+              index = state_of index;
+              shelf = shelf;
+              marked = marked;
+            }) h }
+        ensures { result ≡ record {
+          end = journal.end;
+          live = journal.live;
+          length = entries;
+          changes = directory.changes;
+          index = state_of index;
+          shelf = shelf;
+          marked = marked;
+        } }
     {
         let live = journal.is_live();
         Archive {
@@ -149,10 +182,16 @@ impl Archive {
         ensures same { OnlyReads (D.disk disk.old) (D.disk disk.new) }
         ensures but_cache { IsSameButCache self.old self.new }
         ensures cached { D.disk_tells → CacheStands (D.disk disk.old) self.old → CacheStands (D.disk disk.new) self.new }
-        ensures asked { D.disk_tells → CacheStands (D.disk disk.old) self.old → (s : PlainStored) → s ≡ get_or self.old.shelf.plans place s →
-            OnOk result (HasAsked (pieces_chosen (D.disk disk.old).holds.pages (Some s.plan) span.from span.to) self.old.shelf.cache self.new.shelf.cache (D.disk disk.old) (D.disk disk.new)) }
-        ensures gathered { D.disk_tells → CacheStands (D.disk disk.old) self.old → (s : PlainStored) → s ≡ get_or self.old.shelf.plans place s → IfOk result (λ g. GathersOf (D.disk disk.old).holds.pages s.plan span.from span.to (Ok (g.list.items, g.read))) }
-        ensures damaged { D.disk_tells → CacheStands (D.disk disk.old) self.old → (s : PlainStored) → s ≡ get_or self.old.shelf.plans place s → IfErr result (IfDamaged (λ d. GathersOf (D.disk disk.old).holds.pages s.plan span.from span.to (Err d))) }
+        ensures asked { D.disk_tells → CacheStands (D.disk disk.old) self.old → (s : PlainStored)
+            → s ≡ get_or self.old.shelf.plans place s →
+            OnOk result (HasAsked (pieces_chosen (D.disk disk.old).holds.pages (Some s.plan) span.from span.to) self.old.shelf.cache
+            self.new.shelf.cache (D.disk disk.old) (D.disk disk.new)) }
+        ensures gathered { D.disk_tells → CacheStands (D.disk disk.old) self.old → (s : PlainStored)
+            → s ≡ get_or self.old.shelf.plans place s
+            → IfOk result (λ g. GathersOf (D.disk disk.old).holds.pages s.plan span.from span.to (Ok (g.list.items, g.read))) }
+        ensures damaged { D.disk_tells → CacheStands (D.disk disk.old) self.old → (s : PlainStored)
+            → s ≡ get_or self.old.shelf.plans place s
+            → IfErr result (IfDamaged (λ d. GathersOf (D.disk disk.old).holds.pages s.plan span.from span.to (Err d))) }
     {
         self.shelf.gather(alloc, disk, place, span)
     }

@@ -69,21 +69,29 @@ impl Archive {
         requires fits { length prepared.body.items < 2 ^ 32 }
         requires allowed { EachMayFollow self.old.changes (map place_change prepared.acts.items) }
         requires texts { All HasShortText prepared.acts.items }
-        requires next { (h : History) → StandsFor self.old h → (batch : List Act) × IsNextBatch h batch prepared.acts.items prepared.body.items }
+        requires next { (h : History) → StandsFor self.old h
+            → (batch : List Act) × IsNextBatch h batch prepared.acts.items prepared.body.items }
         ensures only { D.Disk.only disk.old disk.new }
         ensures failed { IsErrOf result ChangeError.Failed → Rose (D.disk disk.old).faults (D.disk disk.new).faults }
         ensures within { Reaches (D.disk disk.new).reach self.new }
         ensures live { IsTrue self.new.live ↔ IsDone result }
-        ensures refused { (why : Refusal) → IsErrOf result (ChangeError.Refused why) → (why ≡ Refusal.Full Which.Journal (limit_of Which.Journal)) × (limit_of Which.Journal < self.old.end + gate_bytes + length prepared.entry.body.items) }
-        ensures allowed { (IsOk result ⊎ IsErrOf result ChangeError.Failed) → self.old.end + gate_bytes + length prepared.entry.body.items ≤ limit_of Which.Journal }
+        ensures refused { (why : Refusal) → IsErrOf result (ChangeError.Refused why)
+            → (why ≡ Refusal.Full Which.Journal (limit_of Which.Journal))
+            × (limit_of Which.Journal < self.old.end + gate_bytes + length prepared.entry.body.items) }
+        ensures allowed { (IsOk result ⊎ IsErrOf result ChangeError.Failed)
+            → self.old.end + gate_bytes + length prepared.entry.body.items ≤ limit_of Which.Journal }
         ensures same { (why : Refusal) → IsErrOf result (ChangeError.Refused why) → (self.new ≡ self.old) × (disk.new ≡ disk.old) }
         // All memory is taken before the first call of the disk.
         ensures memory { IsErrOf result ChangeError.Memory → disk.new ≡ disk.old }
         ensures cached { D.disk_tells → CacheStands (D.disk disk.old) self.old → IsDone result → CacheStands (D.disk disk.new) self.new }
         ensures spent { (IsErrOf result ChangeError.Memory ⊎ IsErrOf result ChangeError.Failed) → IsSpentBut self.old self.new }
-        ensures stands { (h : History) (batch : List Act) → StandsFor self.old h → IsNextBatch h batch prepared.entry.acts.items prepared.entry.body.items → IfOk result (λ n. StandsFor self.new (h ++ entries.Batch batch ∷ []) × (n ≡ length h + 1)) }
-        ensures crash { D.disk_tells → (bodies : List (List ℕ)) → IsInStep (D.disk disk.old) self.old.end bodies → Appends bodies prepared.entry.body.items (D.disk disk.old) (D.disk disk.new) }
-        ensures in_step { D.disk_tells → (bodies : List (List ℕ)) → IsInStep (D.disk disk.old) self.old.end bodies → OnOk result (IsInStep (D.disk disk.new) self.new.end (bodies ++ prepared.entry.body.items ∷ [])) }
+        ensures stands { (h : History) (batch : List Act) → StandsFor self.old h
+            → IsNextBatch h batch prepared.entry.acts.items prepared.entry.body.items
+            → IfOk result (λ n. StandsFor self.new (h ++ entries.Batch batch ∷ []) × (n ≡ length h + 1)) }
+        ensures crash { D.disk_tells → (bodies : List (List ℕ)) → IsInStep (D.disk disk.old) self.old.end bodies
+            → Appends bodies prepared.entry.body.items (D.disk disk.old) (D.disk disk.new) }
+        ensures in_step { D.disk_tells → (bodies : List (List ℕ)) → IsInStep (D.disk disk.old) self.old.end bodies
+            → OnOk result (IsInStep (D.disk disk.new) self.new.end (bodies ++ prepared.entry.body.items ∷ [])) }
         ensures pages { D.disk_tells → KeepsPages (D.disk disk.old) (D.disk disk.new) }
         ensures pages_hold { D.disk_tells → OnOk result ((D.disk disk.new).holds.pages ≡ (D.disk disk.old).holds.pages) }
     {

@@ -42,7 +42,8 @@ impl Archive {
         ensures same { self.new ≡ self.old }
         ensures fits { IfOk result (λ p. length p.body.items < 2 ^ 32) }
         ensures allowed { IfOk result (λ p. change_refusal p.change self.old.changes ≡ None) }
-        ensures prepared { (h : History) → StandsFor self.old h → IsPrepared h self.old.index (entries.Arrive doc at text.now) (arrival_refusal h doc at text.now) result }
+        ensures prepared { (h : History) → StandsFor self.old h
+            → IsPrepared h self.old.index (entries.Arrive doc at text.now) (arrival_refusal h doc at text.now) result }
     {
         prepare_arrival(alloc, &self.directory, &mut self.index, doc, at, text)
     }
@@ -54,7 +55,8 @@ impl Archive {
         ensures same { self.new ≡ self.old }
         ensures fits { IfOk result (λ p. length p.body.items < 2 ^ 32) }
         ensures allowed { IfOk result (λ p. change_refusal p.change self.old.changes ≡ None) }
-        ensures prepared { (h : History) → StandsFor self.old h → IsPrepared h self.old.index (entries.Delete doc at) (deletion_refusal h doc at) result }
+        ensures prepared { (h : History) → StandsFor self.old h
+            → IsPrepared h self.old.index (entries.Delete doc at) (deletion_refusal h doc at) result }
     {
         prepare_deletion(alloc, &self.directory, &mut self.index, doc, at)
     }
@@ -81,16 +83,22 @@ impl Archive {
         ensures failed { IsErrOf result ChangeError.Failed → Rose (D.disk disk.old).faults (D.disk disk.new).faults }
         ensures within { Reaches (D.disk disk.new).reach self.new }
         ensures live { IsTrue self.new.live ↔ IsDone result }
-        ensures refused { (why : Refusal) → IsErrOf result (ChangeError.Refused why) → (why ≡ Refusal.Full Which.Journal (limit_of Which.Journal)) × (limit_of Which.Journal < self.old.end + gate_bytes + length prepared.body.items) }
-        ensures allowed { (IsOk result ⊎ IsErrOf result ChangeError.Failed) → self.old.end + gate_bytes + length prepared.body.items ≤ limit_of Which.Journal }
+        ensures refused { (why : Refusal) → IsErrOf result (ChangeError.Refused why)
+            → (why ≡ Refusal.Full Which.Journal (limit_of Which.Journal))
+            × (limit_of Which.Journal < self.old.end + gate_bytes + length prepared.body.items) }
+        ensures allowed { (IsOk result ⊎ IsErrOf result ChangeError.Failed)
+            → self.old.end + gate_bytes + length prepared.body.items ≤ limit_of Which.Journal }
         ensures same { (why : Refusal) → IsErrOf result (ChangeError.Refused why) → (self.new ≡ self.old) × (disk.new ≡ disk.old) }
         // All memory is taken before the first call of the disk.
         ensures memory { IsErrOf result ChangeError.Memory → disk.new ≡ disk.old }
         ensures cached { D.disk_tells → CacheStands (D.disk disk.old) self.old → IsDone result → CacheStands (D.disk disk.new) self.new }
         ensures spent { (IsErrOf result ChangeError.Memory ⊎ IsErrOf result ChangeError.Failed) → IsSpent self.old self.new }
-        ensures more { IfOk result (λ n. IsMore self.old self.new prepared.change prepared.body.items prepared.words × (n ≡ self.new.length)) }
-        ensures crash { D.disk_tells → (bodies : List (List ℕ)) → IsInStep (D.disk disk.old) self.old.end bodies → Appends bodies prepared.body.items (D.disk disk.old) (D.disk disk.new) }
-        ensures in_step { D.disk_tells → (bodies : List (List ℕ)) → IsInStep (D.disk disk.old) self.old.end bodies → OnOk result (IsInStep (D.disk disk.new) self.new.end (bodies ++ prepared.body.items ∷ [])) }
+        ensures more { IfOk result (λ n. IsMore self.old self.new prepared.change prepared.body.items prepared.words
+            × (n ≡ self.new.length)) }
+        ensures crash { D.disk_tells → (bodies : List (List ℕ)) → IsInStep (D.disk disk.old) self.old.end bodies
+            → Appends bodies prepared.body.items (D.disk disk.old) (D.disk disk.new) }
+        ensures in_step { D.disk_tells → (bodies : List (List ℕ)) → IsInStep (D.disk disk.old) self.old.end bodies
+            → OnOk result (IsInStep (D.disk disk.new) self.new.end (bodies ++ prepared.body.items ∷ [])) }
         ensures pages { D.disk_tells → KeepsPages (D.disk disk.old) (D.disk disk.new) }
         ensures pages_hold { D.disk_tells → OnOk result ((D.disk disk.new).holds.pages ≡ (D.disk disk.old).holds.pages) }
     {
@@ -133,16 +141,20 @@ impl Archive {
         ensures failed { IsErrOf result ChangeError.Failed → Rose (D.disk disk.old).faults (D.disk disk.new).faults }
         ensures within { Reaches (D.disk disk.new).reach self.new }
         ensures live { IsTrue self.new.live ↔ IsDone result }
-        ensures refused { (h : History) → StandsFor self.old h → (why : Refusal) → IsErrOf result (ChangeError.Refused why) → mark_refusal h ≡ Some why }
+        ensures refused { (h : History) → StandsFor self.old h → (why : Refusal) → IsErrOf result (ChangeError.Refused why)
+            → mark_refusal h ≡ Some why }
         ensures allowed { (h : History) → StandsFor self.old h → (IsOk result ⊎ IsErrOf result ChangeError.Failed) → mark_refusal h ≡ None }
         ensures same { (why : Refusal) → IsErrOf result (ChangeError.Refused why) → (self.new ≡ self.old) × (disk.new ≡ disk.old) }
         // All memory is taken before the first call of the disk.
         ensures memory { IsErrOf result ChangeError.Memory → disk.new ≡ disk.old }
         ensures cached { D.disk_tells → CacheStands (D.disk disk.old) self.old → IsDone result → CacheStands (D.disk disk.new) self.new }
         ensures spent { (IsErrOf result ChangeError.Memory ⊎ IsErrOf result ChangeError.Failed) → IsSpent self.old self.new }
-        ensures stands { (h : History) → StandsFor self.old h → IfOk result (λ n. StandsFor self.new (h ++ entries.Format ∷ []) × (n ≡ length h + 1)) }
-        ensures crash { D.disk_tells → (bodies : List (List ℕ)) → IsInStep (D.disk disk.old) self.old.end bodies → Appends bodies (spelling entries.Format) (D.disk disk.old) (D.disk disk.new) }
-        ensures in_step { D.disk_tells → (bodies : List (List ℕ)) → IsInStep (D.disk disk.old) self.old.end bodies → OnOk result (IsInStep (D.disk disk.new) self.new.end (bodies ++ spelling entries.Format ∷ [])) }
+        ensures stands { (h : History) → StandsFor self.old h
+            → IfOk result (λ n. StandsFor self.new (h ++ entries.Format ∷ []) × (n ≡ length h + 1)) }
+        ensures crash { D.disk_tells → (bodies : List (List ℕ)) → IsInStep (D.disk disk.old) self.old.end bodies
+            → Appends bodies (spelling entries.Format) (D.disk disk.old) (D.disk disk.new) }
+        ensures in_step { D.disk_tells → (bodies : List (List ℕ)) → IsInStep (D.disk disk.old) self.old.end bodies
+            → OnOk result (IsInStep (D.disk disk.new) self.new.end (bodies ++ spelling entries.Format ∷ [])) }
         ensures pages { D.disk_tells → KeepsPages (D.disk disk.old) (D.disk disk.new) }
         ensures pages_hold { D.disk_tells → OnOk result ((D.disk disk.new).holds.pages ≡ (D.disk disk.old).holds.pages) }
     {

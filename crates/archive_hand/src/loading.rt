@@ -42,16 +42,23 @@ impl Archive {
         ensures stands { IfOk result (λ a. (h : History) × StandsFor a h) }
         // What it answers of the bytes that reads gave at the start; where they stand for a history, it is the one loaded.
         ensures not_archive { D.disk_tells → (at : ℕ) → IsErrOf result (LoadError.NotArchive at) → IsNotArchive (D.disk disk.old).holds at }
-        ensures found { D.disk_tells → IfOk result (λ a. (h : History) × (StandsFor a h × Spells (D.disk disk.old).holds.journal (bodies_of h))) }
+        ensures found { D.disk_tells
+            → IfOk result (λ a. (h : History) × (StandsFor a h × Spells (D.disk disk.old).holds.journal (bodies_of h))) }
         // And the disk is in step with it then, by what reads give, whatever lies in Pages.
-        ensures by_reads { D.disk_tells → IfOk result (λ a. (s : Store) × (AreInStepBy (D.disk disk.new) a s × Spells (D.disk disk.old).holds.journal (bodies_of s.history) × (s.pages ≡ (D.disk disk.old).holds.pages))) }
-        ensures in_step { D.disk_tells → (h : History) → Stands h (D.disk disk.old).holds → IfOk result (λ a. AreInStep (D.disk disk.new) a h) }
+        ensures by_reads { D.disk_tells
+            → IfOk result (λ a. (s : Store)
+            × (AreInStepBy (D.disk disk.new) a s × Spells (D.disk disk.old).holds.journal (bodies_of s.history)
+            × (s.pages ≡ (D.disk disk.old).holds.pages))) }
+        ensures in_step { D.disk_tells → (h : History) → Stands h (D.disk disk.old).holds
+            → IfOk result (λ a. AreInStep (D.disk disk.new) a h) }
         ensures exact { D.disk_tells → OnOk result ((at : ℕ) → IsNotArchive (D.disk disk.old).holds at → ⊥) }
         // Where each image stands for one history, each image left since stands for it.
         ensures crash { D.disk_tells → (h : History) → EachStands (D.disk disk.old) h → KeepsHistory h (D.disk disk.old) (D.disk disk.new) }
         // So it is of the bodies that each journal spells, whatever they are and whatever lies in Pages.
-        ensures kept { D.disk_tells → (bodies : List (List ℕ)) → EachSpells (D.disk disk.old) bodies → KeepsBodies bodies (D.disk disk.old) (D.disk disk.new) }
-        ensures never { D.disk_tells → (h : History) → EachStands (D.disk disk.old) h → (at : ℕ) → IsErrOf result (LoadError.NotArchive at) → ⊥ }
+        ensures kept { D.disk_tells → (bodies : List (List ℕ)) → EachSpells (D.disk disk.old) bodies
+            → KeepsBodies bodies (D.disk disk.old) (D.disk disk.new) }
+        ensures never { D.disk_tells → (h : History) → EachStands (D.disk disk.old) h → (at : ℕ) → IsErrOf result (LoadError.NotArchive at)
+            → ⊥ }
         // No byte of Pages is read.
         ensures unread { D.disk_tells → (D.disk disk.new).bytes_read.pages ≡ (D.disk disk.old).bytes_read.pages }
         // A journal that isn't new is synced and read, and nothing else.
@@ -83,12 +90,15 @@ fn archive_of<D: Disk>(
     ensures within { IfOk result (λ a. Reaches (D.disk disk.new).reach a) }
     ensures stands { IfOk result (λ a. (h : History) × StandsFor a h) }
     // Where the journal spells the bodies that lie there: what it answers is so of any image that spells them and whose pages are as long.
-    ensures not_archive { D.disk_tells → (bodies : List (List ℕ)) → heads.now ≡ heads_of first_gate bodies → Spells (D.disk disk.old).holds.journal bodies →
+    ensures not_archive { D.disk_tells → (bodies : List (List ℕ)) → heads.now ≡ heads_of first_gate bodies
+        → Spells (D.disk disk.old).holds.journal bodies →
         (image : Bytes) → Spells image.journal bodies → length image.pages ≡ (D.disk disk.old).reach.pages →
         (at : ℕ) → IsErrOf result (LoadError.NotArchive at) → IsNotArchive image at }
-    ensures found { D.disk_tells → (bodies : List (List ℕ)) → heads.now ≡ heads_of first_gate bodies → Spells (D.disk disk.old).holds.journal bodies →
+    ensures found { D.disk_tells → (bodies : List (List ℕ)) → heads.now ≡ heads_of first_gate bodies
+        → Spells (D.disk disk.old).holds.journal bodies →
         IfOk result (λ a. (h : History) × (StandsFor a h × (bodies_of h ≡ bodies))) }
-    ensures exact { D.disk_tells → (bodies : List (List ℕ)) → heads.now ≡ heads_of first_gate bodies → Spells (D.disk disk.old).holds.journal bodies →
+    ensures exact { D.disk_tells → (bodies : List (List ℕ)) → heads.now ≡ heads_of first_gate bodies
+        → Spells (D.disk disk.old).holds.journal bodies →
         (image : Bytes) → Spells image.journal bodies → length image.pages ≡ (D.disk disk.old).reach.pages →
         OnOk result ((at : ℕ) → IsNotArchive image at → ⊥) }
 {

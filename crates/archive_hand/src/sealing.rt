@@ -36,7 +36,8 @@ impl Archive {
     pub fn sealed(&self, alloc: Global, word: &Phrase) -> Result<Sealed, Declined>
         ensures refused { (kind : Kind) (h : History) → StandsFor self.now h → (why : Refusal) → IsErrOf result (Declined.Refused why) →
             OfPhrase kind h (term_of word.now) (λ because. why ≡ because) (λ word list. ⊥) }
-        ensures sealed { (h : History) → StandsFor self.now h → IfOk result (λ s. IsSealed h word.now s.word s.list.items s.horizon.seconds) }
+        ensures sealed { (h : History) → StandsFor self.now h
+            → IfOk result (λ s. IsSealed h word.now s.word s.list.items s.horizon.seconds) }
         ensures some { IfOk result (λ s. 0 < length s.list.items) }
         ensures few { IfOk result (λ s. length s.list.items < 2 ^ 38) }
         ensures early { IfOk result (λ s. All (λ p. p.span.to ≤ s.horizon.seconds) s.list.items) }

@@ -57,14 +57,20 @@ impl Archive {
         ensures memory { IsErrOf result ChangeError.Memory → disk.new ≡ disk.old }
         ensures cached { D.disk_tells → CacheStands (D.disk disk.old) self.old → IsDone result → CacheStands (D.disk disk.new) self.new }
         ensures spent { (IsErrOf result ChangeError.Memory ⊎ IsErrOf result ChangeError.Failed) → IsSpent self.old self.new }
-        ensures refused { (h : History) → StandsFor self.old h → (why : Refusal) → IsErrOf result (ChangeError.Refused why) → IsFull draft (live_extents h) self.old.end why × StandsFor self.new h }
-        ensures stores { (h : History) → StandsFor self.old h → IfOk result (λ r. (plan : PlanEntry) × (IsStoredAs h draft plan × (r ≡ tells_of draft (length h + 1)) × StandsFor self.new (h ++ entries.Planned plan ∷ []))) }
+        ensures refused { (h : History) → StandsFor self.old h → (why : Refusal) → IsErrOf result (ChangeError.Refused why)
+            → IsFull draft (live_extents h) self.old.end why × StandsFor self.new h }
+        ensures stores { (h : History) → StandsFor self.old h
+            → IfOk result (λ r. (plan : PlanEntry)
+            × (IsStoredAs h draft plan × (r ≡ tells_of draft (length h + 1)) × StandsFor self.new (h ++ entries.Planned plan ∷ []))) }
         // By what reads give, whatever lies in Pages: at Ok the draft's plan comes behind the history; where the disk failed, all is as it was, or it does.
         ensures puts { D.disk_tells → (s : Store) → AreInStepBy (D.disk disk.old) self.old s →
-            IfOk result (λ r. (next : Store) × (IsStoredBy s next draft (D.disk disk.old) (D.disk disk.new) × (r ≡ tells_of draft (length s.history + 1)) × AreInStepBy (D.disk disk.new) self.new next)) }
+            IfOk result (λ r. (next : Store)
+            × (IsStoredBy s next draft (D.disk disk.old) (D.disk disk.new) × (r ≡ tells_of draft (length s.history + 1))
+            × AreInStepBy (D.disk disk.new) self.new next)) }
         ensures stops { D.disk_tells → (s : Store) → AreInStepBy (D.disk disk.old) self.old s → IsErrOf result ChangeError.Failed →
             KeepsBy s (D.disk disk.old) (D.disk disk.new) ⊎ ((next : Store) × IsStoredBy s next draft (D.disk disk.old) (D.disk disk.new)) }
-        ensures stays { (h : History) → StandsFor self.old h → ((why : Refusal) × IsErrOf result (ChangeError.Refused why)) ⊎ IsErrOf result ChangeError.Memory → StandsFor self.new h }
+        ensures stays { (h : History) → StandsFor self.old h → ((why : Refusal) × IsErrOf result (ChangeError.Refused why))
+            ⊎ IsErrOf result ChangeError.Memory → StandsFor self.new h }
     {
         let ready = match make_ready(
             alloc,
@@ -110,12 +116,17 @@ fn write_ready<D: Disk>(
     ensures inside { OnOk result (All (λ (p : PlainPlace). IsInside (D.disk disk.new).reach.pages p.extent) ready.prepared.places) }
     ensures plans { OnOk result (shelf.new.plans ≡ with_plan shelf.old.plans ready.stored) }
     ensures pages { OnOk result (HasTaken shelf.new.pages (extents_all shelf.new.plans)) }
-    ensures cached { D.disk_tells → IsCacheOf shelf.old.cache (D.disk disk.old).holds.pages → OnOk result (IsCacheOf shelf.new.cache (D.disk disk.new).holds.pages) }
-    ensures spent { OnErr result ((journal.new.end ≡ journal.old.end) × (shelf.new.plans ≡ shelf.old.plans) × HasTaken shelf.new.pages (extents_all shelf.old.plans) × (shelf.new.cache ≡ shelf.old.cache)) }
+    ensures cached { D.disk_tells → IsCacheOf shelf.old.cache (D.disk disk.old).holds.pages
+        → OnOk result (IsCacheOf shelf.new.cache (D.disk disk.new).holds.pages) }
+    ensures spent { OnErr result ((journal.new.end ≡ journal.old.end) × (shelf.new.plans ≡ shelf.old.plans)
+        × HasTaken shelf.new.pages (extents_all shelf.old.plans) × (shelf.new.cache ≡ shelf.old.cache)) }
     // Whatever lies in Pages: what each image left since has.
-    ensures puts { D.disk_tells → (bodies : List (List ℕ)) → IsInStep (D.disk disk.old) journal.old.end bodies → OnOk result (HasPutDown bodies ready.frame (pieces ready.prepared) (D.disk disk.old) (D.disk disk.new)) }
-    ensures stops { D.disk_tells → (bodies : List (List ℕ)) → IsInStep (D.disk disk.old) journal.old.end bodies → OnErr result (HasStopped bodies ready.frame (pieces ready.prepared) (D.disk disk.old) (D.disk disk.new)) }
-    ensures entered { D.disk_tells → (bodies : List (List ℕ)) → IsInStep (D.disk disk.old) journal.old.end bodies → OnOk result (IsInStep (D.disk disk.new) journal.new.end (bodies ++ ready.frame ∷ [])) }
+    ensures puts { D.disk_tells → (bodies : List (List ℕ)) → IsInStep (D.disk disk.old) journal.old.end bodies
+        → OnOk result (HasPutDown bodies ready.frame (pieces ready.prepared) (D.disk disk.old) (D.disk disk.new)) }
+    ensures stops { D.disk_tells → (bodies : List (List ℕ)) → IsInStep (D.disk disk.old) journal.old.end bodies
+        → OnErr result (HasStopped bodies ready.frame (pieces ready.prepared) (D.disk disk.old) (D.disk disk.new)) }
+    ensures entered { D.disk_tells → (bodies : List (List ℕ)) → IsInStep (D.disk disk.old) journal.old.end bodies
+        → OnOk result (IsInStep (D.disk disk.new) journal.new.end (bodies ++ ready.frame ∷ [])) }
 {
     let Ready {
         stored,
@@ -154,11 +165,15 @@ fn put_down<D: Disk>(
     ensures reached { OnOk result (journal.new.end ≤ (D.disk disk.new).reach.journal) }
     ensures inside { OnOk result (All (λ (p : PlainPlace). IsInside (D.disk disk.new).reach.pages p.extent) prepared.now.places) }
     ensures spent { OnErr result (journal.new.end ≡ journal.old.end) }
-    ensures cached { D.disk_tells → IsCacheOf sublists.now.cache (D.disk disk.old).holds.pages → OnOk result (IsCacheOf sublists.now.cache (D.disk disk.new).holds.pages) }
+    ensures cached { D.disk_tells → IsCacheOf sublists.now.cache (D.disk disk.old).holds.pages
+        → OnOk result (IsCacheOf sublists.now.cache (D.disk disk.new).holds.pages) }
     // Whatever lies in Pages: what each image left since has.
-    ensures puts { D.disk_tells → (bodies : List (List ℕ)) → IsInStep (D.disk disk.old) journal.old.end bodies → OnOk result (HasPutDown bodies frame.now (pieces prepared.now) (D.disk disk.old) (D.disk disk.new)) }
-    ensures stops { D.disk_tells → (bodies : List (List ℕ)) → IsInStep (D.disk disk.old) journal.old.end bodies → OnErr result (HasStopped bodies frame.now (pieces prepared.now) (D.disk disk.old) (D.disk disk.new)) }
-    ensures entered { D.disk_tells → (bodies : List (List ℕ)) → IsInStep (D.disk disk.old) journal.old.end bodies → OnOk result (IsInStep (D.disk disk.new) journal.new.end (bodies ++ frame.now ∷ [])) }
+    ensures puts { D.disk_tells → (bodies : List (List ℕ)) → IsInStep (D.disk disk.old) journal.old.end bodies
+        → OnOk result (HasPutDown bodies frame.now (pieces prepared.now) (D.disk disk.old) (D.disk disk.new)) }
+    ensures stops { D.disk_tells → (bodies : List (List ℕ)) → IsInStep (D.disk disk.old) journal.old.end bodies
+        → OnErr result (HasStopped bodies frame.now (pieces prepared.now) (D.disk disk.old) (D.disk disk.new)) }
+    ensures entered { D.disk_tells → (bodies : List (List ℕ)) → IsInStep (D.disk disk.old) journal.old.end bodies
+        → OnOk result (IsInStep (D.disk disk.new) journal.new.end (bodies ++ frame.now ∷ [])) }
 {
     sublists.write(disk, prepared)?;
     match journal.append(disk, frame) {

@@ -59,4 +59,5 @@ abbrev pub IsFull : Draft → List Extent → ℕ → Refusal → Type 0
 IsFull draft taken end why =
     (HaveNoRoom taken (sizes (bytes_of draft)) × (why ≡ refusals.Full Pages (limit_of Pages)))
     ⊎ ((places : List Place) × (HasPlaces draft taken places
-    × (limit_of Journal < end + gate_bytes + length (plan_spelling (plan_with draft places))) × (why ≡ refusals.Full Journal (limit_of Journal))))
+    × (limit_of Journal < end + gate_bytes + length (plan_spelling (plan_with draft places)))
+    × (why ≡ refusals.Full Journal (limit_of Journal))))

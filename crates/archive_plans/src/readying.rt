@@ -77,11 +77,14 @@ pub fn make_ready(
     ensures plans { shelf.new.plans ≡ shelf.old.plans }
     ensures cache { shelf.new.cache ≡ shelf.old.cache }
     ensures ready { IfOk result (λ r. IsReady draft end count r) }
-    ensures placed { (taken : List PlainExtent) → HasTaken shelf.old.pages taken → IfOk result (λ r. HasPlaces draft taken r.prepared.places) }
-    ensures taken { (taken : List PlainExtent) → HasTaken shelf.old.pages taken → IfOk result (λ r. HasTaken shelf.new.pages (extents r.prepared.places ++ taken)) }
+    ensures placed { (taken : List PlainExtent) → HasTaken shelf.old.pages taken
+        → IfOk result (λ r. HasPlaces draft taken r.prepared.places) }
+    ensures taken { (taken : List PlainExtent) → HasTaken shelf.old.pages taken
+        → IfOk result (λ r. HasTaken shelf.new.pages (extents r.prepared.places ++ taken)) }
     ensures room { OnOk result (1 ≤ shelf.new.room) }
     ensures none { (taken : List PlainExtent) → HasTaken shelf.old.pages taken → OnErr result (HasTaken shelf.new.pages taken) }
-    ensures full { (taken : List PlainExtent) → HasTaken shelf.old.pages taken → (why : Refusal) → IsErrOf result (Declined.Refused why) → IsFull draft taken end why }
+    ensures full { (taken : List PlainExtent) → HasTaken shelf.old.pages taken → (why : Refusal) → IsErrOf result (Declined.Refused why)
+        → IsFull draft taken end why }
 {
     shelf.make_room()?;
     let prepared = match shelf.prepare(alloc, &draft.list, &draft.cuts, draft.horizon) {
@@ -148,7 +151,9 @@ fn spell_entry(alloc: Global, end: u64, draft: Draft, places: &[Place]) -> Resul
     ensures plan { IfOk result (λ s. s.plan ≡ plan_with draft places.now) }
     ensures frame { IfOk result (λ s. s.frame ≡ plan_spelling s.plan) }
     ensures fits { IfOk result (λ s. end + gate_bytes + length s.frame ≤ limit_of Which.Journal) }
-    ensures full { (why : Refusal) → IsErrOf result (Declined.Refused why) → (limit_of Which.Journal < end + gate_bytes + length (plan_spelling (plan_with draft places.now))) × (why ≡ Refusal.Full Which.Journal (limit_of Which.Journal)) }
+    ensures full { (why : Refusal) → IsErrOf result (Declined.Refused why)
+        → (limit_of Which.Journal < end + gate_bytes + length (plan_spelling (plan_with draft places.now)))
+        × (why ≡ Refusal.Full Which.Journal (limit_of Which.Journal)) }
 {
     let places = Vec::from_slice(alloc, places)?;
     let plan = PlanEntry {

@@ -48,7 +48,12 @@ impl Model for Shelf {
 
     ghost Value = { ShelfState };
 
-    ghost view = { λ s. record { plans = s.plans.items; pages = s.sublists.pages; cache = s.sublists.cache; room = vec_capacity s.plans - vec_len s.plans } };
+    ghost view = { λ s. record {
+      plans = s.plans.items;
+      pages = s.sublists.pages;
+      cache = s.sublists.cache;
+      room = vec_capacity s.plans - vec_len s.plans;
+    } };
 
     ghost invariant = { λ s. EachOnce s.plans.items × LieIn (extents_all s.plans.items) s.sublists.cache };
 }
@@ -84,7 +89,8 @@ impl Shelf {
 
     /// The plan of a word. Costs the plans in front of it.
     pub fn plan_of(&self, word: &Key) -> Option<&StoredPlan>
-        ensures { MatchOption result (All (λ s. is_another word.now s ≡ true) self.now.plans) (λ s. (at : ℕ) × IsPlanAt self.now.plans word.now at × (s.now ≡ get_or self.now.plans at s.now)) }
+        ensures { MatchOption result (All (λ s. is_another word.now s ≡ true) self.now.plans) (λ s. (at : ℕ)
+            × IsPlanAt self.now.plans word.now at × (s.now ≡ get_or self.now.plans at s.now)) }
     {
         match position_of(&self.plans, word) {
             Some(at) => Some(&self.plans[at]),
@@ -114,14 +120,24 @@ impl Shelf {
         ensures failed { IfErr result (IfFailed (Rose (D.disk disk.old).faults (D.disk disk.new).faults)) }
         ensures same { OnlyReads (D.disk disk.old) (D.disk disk.new) }
         // The pages of the places that are chosen are asked for, in order.
-        ensures asked { D.disk_tells → StandsFor self.old.cache (D.disk disk.old).holds.pages → (s : PlainStored) → s ≡ get_or self.old.plans at s →
-            OnOk result (self.new.cache ≡ after_asking_all (pieces_chosen (D.disk disk.old).holds.pages (Some s.plan) span.from span.to) self.old.cache) }
+        ensures asked { D.disk_tells → StandsFor self.old.cache (D.disk disk.old).holds.pages → (s : PlainStored)
+            → s ≡ get_or self.old.plans at s →
+            OnOk result (self.new.cache ≡ after_asking_all (pieces_chosen (D.disk disk.old).holds.pages (Some s.plan) span.from span.to)
+            self.old.cache) }
         // Those that are missed are read, and nothing else is.
-        ensures count { D.disk_tells → StandsFor self.old.cache (D.disk disk.old).holds.pages → (s : PlainStored) → s ≡ get_or self.old.plans at s →
-            OnOk result ((D.disk disk.new).bytes_read ≡ replaced (D.disk disk.old).bytes_read Area.Pages ((D.disk disk.old).bytes_read.pages + missed_by_all (pieces_chosen (D.disk disk.old).holds.pages (Some s.plan) span.from span.to) self.old.cache)) }
-        ensures gathered { D.disk_tells → StandsFor self.old.cache (D.disk disk.old).holds.pages → (s : PlainStored) → s ≡ get_or self.old.plans at s → IfOk result (λ g. GathersOf (D.disk disk.old).holds.pages s.plan span.from span.to (Ok (g.list.items, g.read))) }
-        ensures damaged { D.disk_tells → StandsFor self.old.cache (D.disk disk.old).holds.pages → (s : PlainStored) → s ≡ get_or self.old.plans at s → IfErr result (IfDamaged (λ d. GathersOf (D.disk disk.old).holds.pages s.plan span.from span.to (Err d))) }
-        ensures stays { D.disk_tells → StandsFor self.old.cache (D.disk disk.old).holds.pages → StandsFor self.new.cache (D.disk disk.new).holds.pages }
+        ensures count { D.disk_tells → StandsFor self.old.cache (D.disk disk.old).holds.pages → (s : PlainStored)
+            → s ≡ get_or self.old.plans at s →
+            OnOk result ((D.disk disk.new).bytes_read ≡ replaced (D.disk disk.old).bytes_read Area.Pages
+            ((D.disk disk.old).bytes_read.pages + missed_by_all
+            (pieces_chosen (D.disk disk.old).holds.pages (Some s.plan) span.from span.to) self.old.cache)) }
+        ensures gathered { D.disk_tells → StandsFor self.old.cache (D.disk disk.old).holds.pages → (s : PlainStored)
+            → s ≡ get_or self.old.plans at s
+            → IfOk result (λ g. GathersOf (D.disk disk.old).holds.pages s.plan span.from span.to (Ok (g.list.items, g.read))) }
+        ensures damaged { D.disk_tells → StandsFor self.old.cache (D.disk disk.old).holds.pages → (s : PlainStored)
+            → s ≡ get_or self.old.plans at s
+            → IfErr result (IfDamaged (λ d. GathersOf (D.disk disk.old).holds.pages s.plan span.from span.to (Err d))) }
+        ensures stays { D.disk_tells → StandsFor self.old.cache (D.disk disk.old).holds.pages
+            → StandsFor self.new.cache (D.disk disk.new).holds.pages }
         ensures kept { self.new ≡ record (self.old) { cache = self.new.cache } }
     {
         let plan = &self.plans[at].plan;
@@ -152,9 +168,12 @@ impl Shelf {
         ensures room { self.new.room ≡ self.old.room }
         ensures spelled { IfOk result (λ p. p.spellings ≡ spellings Blocks list.now (seconds cuts.now) horizon.seconds) }
         ensures each { IfOk result (λ p. AllZip IsFor p.places p.spellings) }
-        ensures placed { (taken : List PlainExtent) → HasTaken self.old.pages taken → IfOk result (λ p. ArePlaced taken (sizes p.spellings) (extents p.places)) }
-        ensures taken { (taken : List PlainExtent) → HasTaken self.old.pages taken → IfOk result (λ p. HasTaken self.new.pages (extents p.places ++ taken)) }
-        ensures full { (taken : List PlainExtent) → HasTaken self.old.pages taken → IsErrOf result TakeError.Full → HaveNoRoom taken (sizes (spellings Blocks list.now (seconds cuts.now) horizon.seconds)) }
+        ensures placed { (taken : List PlainExtent) → HasTaken self.old.pages taken
+            → IfOk result (λ p. ArePlaced taken (sizes p.spellings) (extents p.places)) }
+        ensures taken { (taken : List PlainExtent) → HasTaken self.old.pages taken
+            → IfOk result (λ p. HasTaken self.new.pages (extents p.places ++ taken)) }
+        ensures full { (taken : List PlainExtent) → HasTaken self.old.pages taken → IsErrOf result TakeError.Full
+            → HaveNoRoom taken (sizes (spellings Blocks list.now (seconds cuts.now) horizon.seconds)) }
         ensures none { (taken : List PlainExtent) → HasTaken self.old.pages taken → OnErr result (HasTaken self.new.pages taken) }
     {
         self.sublists
@@ -166,7 +185,8 @@ impl Shelf {
         requires taken { (live : List PlainExtent) × HasTaken self.old.pages (extents prepared.places ++ live) }
         ensures plans { self.new.plans ≡ self.old.plans }
         ensures cache { self.new.cache ≡ self.old.cache }
-        ensures freed { (live : List PlainExtent) → HasTaken self.old.pages (extents prepared.places ++ live) → HasTaken self.new.pages live }
+        ensures freed { (live : List PlainExtent) → HasTaken self.old.pages (extents prepared.places ++ live)
+            → HasTaken self.new.pages live }
     {
         self.sublists.forget(prepared);
     }

@@ -17,7 +17,8 @@ use Rattle.archive_questions.specs.declared.error.AskError.{AskError}
 use Rattle.archive_questions.specs.declared.error.AskError.TheVariants as asks
 
 -- After sublists were fetched, on any disk: `tells` says that the disk tells.
-pub record AfterFetching {T : Type 0} (tells : Type 0) (result : Result T FetchError) (d e : DiskState) (old new : ArchiveState) : Type 0 where
+pub record AfterFetching {T : Type 0} (tells : Type 0) (result : Result T FetchError) (d e : DiskState)
+    (old new : ArchiveState) : Type 0 where
   -- no image changes, no byte and no length
   pub same : OnlyReads d e
   -- nor does the archive, but for which pages it keeps
@@ -29,15 +30,19 @@ pub record AfterFetching {T : Type 0} (tells : Type 0) (result : Result T FetchE
 
 -- What sublists were fetched for over [a, b), for some words: `tells` says that the disk tells, and `IsMade` what is made of them. It is so of each
 -- history that the archive stands for, whatever the disk holds, where the pages kept are what reads give.
-pub record Fetches {T : Type 0} (tells : Type 0) (a b : ℕ) (words : List (List ℕ)) (IsMade : History → T → Type 0) (result : Result T FetchError) (d e : DiskState) (old new : ArchiveState) : Type 0 where
+pub record Fetches {T : Type 0} (tells : Type 0) (a b : ℕ) (words : List (List ℕ)) (IsMade : History → T → Type 0)
+    (result : Result T FetchError) (d e : DiskState) (old new : ArchiveState) : Type 0 where
   pub made : tells → (h : History) → StandsFor old h → CacheStands d old → IfOk result (IsMade h)
   -- exactly the pages were asked for of the places that are chosen
-  pub asked : tells → (h : History) → StandsFor old h → CacheStands d old → OnOk result (HasAsked (pieces_for h d.holds.pages a b words) old.shelf.cache new.shelf.cache d e)
+  pub asked : tells → (h : History) → StandsFor old h → CacheStands d old
+      → OnOk result (HasAsked (pieces_for h d.holds.pages a b words) old.shelf.cache new.shelf.cache d e)
   -- and what is damaged is the first of what is read for the words, as what reads give shows
-  pub damaged : tells → (h : History) → StandsFor old h → CacheStands d old → (damage : Damage) → result ≡ Err (fetches.Damaged damage) → IsFirstDamage h d.holds.pages a b words damage
+  pub damaged : tells → (h : History) → StandsFor old h → CacheStands d old → (damage : Damage) → result ≡ Err (fetches.Damaged damage)
+      → IsFirstDamage h d.holds.pages a b words damage
 
 -- After a query by this phrase over [a, b), on any disk: `tells` says that the disk tells, and `IsMade` what an answer to a query is made from.
-pub record AfterQuestion {T : Type 0} (tells : Type 0) (phrase : List ℕ) (a b : ℕ) (IsMade : History → Query → T → Type 0) (result : Result T AskError) (d e : DiskState) (old new : ArchiveState) : Type 0 where
+pub record AfterQuestion {T : Type 0} (tells : Type 0) (phrase : List ℕ) (a b : ℕ) (IsMade : History → Query → T → Type 0)
+    (result : Result T AskError) (d e : DiskState) (old new : ArchiveState) : Type 0 where
   -- no image changes, no byte and no length
   pub same : OnlyReads d e
   -- nor does the archive, but for which pages it keeps
@@ -57,4 +62,5 @@ pub record AfterQuestion {T : Type 0} (tells : Type 0) (phrase : List ℕ) (a b 
   pub made : tells → (h : History) → StandsFor old h → CacheStands d old
       → IfOk result (λ answer. IsAnswerTo h a b phrase (λ query. IsMade h query answer) old.shelf.cache new.shelf.cache d e)
   -- and what is damaged is the first of what is read for the query's words, as what reads give shows
-  pub damaged : tells → (h : History) → StandsFor old h → CacheStands d old → (damage : Damage) → result ≡ Err (asks.Damaged damage) → SpoilsAnswer h d.holds.pages a b phrase damage
+  pub damaged : tells → (h : History) → StandsFor old h → CacheStands d old → (damage : Damage) → result ≡ Err (asks.Damaged damage)
+      → SpoilsAnswer h d.holds.pages a b phrase damage

@@ -50,7 +50,8 @@ pub fn find<D: Disk>(
 ) -> Result<Answer, AskError>
     requires within { Reaches (D.disk disk.old).reach archive.old }
     ensures only { D.Disk.only disk.old disk.new }
-    ensures after { AfterQuestion D.disk_tells expr.now at.seconds (at.seconds + 1) (λ h query answer. IsMadeAt h (D.disk disk.old).holds.pages at.seconds query answer.rows.items answer.read)
+    ensures after { AfterQuestion D.disk_tells expr.now at.seconds (at.seconds + 1)
+        (λ h query answer. IsMadeAt h (D.disk disk.old).holds.pages at.seconds query answer.rows.items answer.read)
         result (D.disk disk.old) (D.disk disk.new) archive.old archive.new }
     // In step by what reads give, whatever lies in Pages, it is a step.
     ensures by_reads { D.disk_tells → (s : Store) → AreInStepBy (D.disk disk.old) archive.old s →
@@ -75,7 +76,9 @@ pub fn top<D: Disk>(
 ) -> Result<Answer, AskError>
     requires within { Reaches (D.disk disk.old).reach archive.old }
     ensures only { D.Disk.only disk.old disk.new }
-    ensures after { AfterQuestion D.disk_tells expr.now at.seconds (at.seconds + 1) (λ h query answer. IsWantedAt (Wanted.First count.number) h (D.disk disk.old).holds.pages at.seconds query answer.rows.items answer.read)
+    ensures after { AfterQuestion D.disk_tells expr.now at.seconds (at.seconds + 1)
+        (λ h query answer. IsWantedAt (Wanted.First count.number) h (D.disk disk.old).holds.pages at.seconds query answer.rows.items
+        answer.read)
         result (D.disk disk.old) (D.disk disk.new) archive.old archive.new }
     // In step by what reads give, whatever lies in Pages, it is a step.
     ensures by_reads { D.disk_tells → (s : Store) → AreInStepBy (D.disk disk.old) archive.old s →
@@ -102,7 +105,8 @@ fn ask<D: Disk>(
 ) -> Result<Answer, AskError>
     requires within { Reaches (D.disk disk.old).reach archive.old }
     ensures only { D.Disk.only disk.old disk.new }
-    ensures after { AfterQuestion D.disk_tells expr.now at.seconds (at.seconds + 1) (λ h query answer. IsWantedAt wanted h (D.disk disk.old).holds.pages at.seconds query answer.rows.items answer.read)
+    ensures after { AfterQuestion D.disk_tells expr.now at.seconds (at.seconds + 1)
+        (λ h query answer. IsWantedAt wanted h (D.disk disk.old).holds.pages at.seconds query answer.rows.items answer.read)
         result (D.disk disk.old) (D.disk disk.new) archive.old archive.new }
 {
     match Query::read(alloc, expr.as_str()) {
@@ -123,7 +127,8 @@ fn answer_of<D: Disk>(
     requires within { Reaches (D.disk disk.old).reach archive.old }
     ensures only { D.Disk.only disk.old disk.new }
     ensures after { AfterFetching D.disk_tells result (D.disk disk.old) (D.disk disk.new) archive.old archive.new }
-    ensures fetched { Fetches D.disk_tells at.seconds (at.seconds + 1) (words_of query.now) (λ h answer. IsWantedAt wanted h (D.disk disk.old).holds.pages at.seconds query.now answer.rows.items answer.read)
+    ensures fetched { Fetches D.disk_tells at.seconds (at.seconds + 1) (words_of query.now)
+        (λ h answer. IsWantedAt wanted h (D.disk disk.old).holds.pages at.seconds query.now answer.rows.items answer.read)
         result (D.disk disk.old) (D.disk disk.new) archive.old archive.new }
 {
     let parts = parts_of(alloc, disk, archive, query.words(), moment(at))?;
@@ -142,7 +147,9 @@ fn answer_by(
 ) -> Result<Answer, AllocError>
     requires { length parts.now ≡ length (words_of query.now) }
     ensures read { IfOk result (λ answer. answer.read ≡ read_of parts.now) }
-    ensures rows { (h : History) (pages : List ℕ) → StandsFor archive.now h → AreChosen h pages at.seconds (at.seconds + 1) (words_of query.now) parts.now → IfOk result (λ answer. AreWantedOf wanted (λ rows. IsAnswer (λ doc. IsSome (text_at h doc at.seconds))
+    ensures rows { (h : History) (pages : List ℕ) → StandsFor archive.now h
+        → AreChosen h pages at.seconds (at.seconds + 1) (words_of query.now) parts.now
+        → IfOk result (λ answer. AreWantedOf wanted (λ rows. IsAnswer (λ doc. IsSome (text_at h doc at.seconds))
         (λ doc. told (words_of query.now) parts.now at.seconds doc.0) query.now rows) answer.rows.items) }
 {
     if query.matches_without_words() {
@@ -191,7 +198,8 @@ pub fn show<D: Disk>(
     ensures failed { IsErrOf result ReadError.Failed → Rose (D.disk disk.old).faults (D.disk disk.new).faults }
     // In step by what reads give, whatever lies in Pages, it is a step.
     ensures by_reads { D.disk_tells → (s : Store) → AreInStepBy (D.disk disk.old) archive.now s →
-        TakesBy s (items.Command (commands.Show doc at)) (version_shown (λ v. v.items) result) (D.disk disk.old) (D.disk disk.new) archive.now }
+        TakesBy s (items.Command (commands.Show doc at)) (version_shown (λ v. v.items) result) (D.disk disk.old)
+        (D.disk disk.new) archive.now }
 {
     let Some(place) = archive.directory().place(doc, at) else {
         return Ok(None);

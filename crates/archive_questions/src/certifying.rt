@@ -34,18 +34,23 @@ use text_words::one_term;
 pub fn certificate(alloc: Global, archive: &Archive, word: &Phrase) -> Result<Proposal, Declined>
     // Whatever history it stands for, what is told is the stored plan, and a refusal comes exactly where that history has the cause (but for
     // want of memory).
-    ensures refused { (h : History) → StandsFor archive.now h → (why : Refusal) → IsErrOf result (Declined.Refused why) → Certifies h word.now (Refused why) }
-    ensures certifies { (h : History) → StandsFor archive.now h → IfOk result (λ p. Certifies h word.now (Proposed p.segments.items p.nodes.items p.space)) }
+    ensures refused { (h : History) → StandsFor archive.now h → (why : Refusal) → IsErrOf result (Declined.Refused why)
+        → Certifies h word.now (Refused why) }
+    ensures certifies { (h : History) → StandsFor archive.now h
+        → IfOk result (λ p. Certifies h word.now (Proposed p.segments.items p.nodes.items p.space)) }
     // In step by what reads give, whatever lies in Pages, it is a step.
-    ensures by_reads { (d : DiskState) (s : Store) → AreInStepBy d archive.now s → TakesBy s (items.Command (commands.Certificate word.now)) (proposed result) d d archive.now }
+    ensures by_reads { (d : DiskState) (s : Store) → AreInStepBy d archive.now s
+        → TakesBy s (items.Command (commands.Certificate word.now)) (proposed result) d d archive.now }
 {
     certificate_of(alloc, archive, word)
 }
 
 /// The certificate of a phrase's word.
 fn certificate_of(alloc: Global, archive: &Archive, word: &Phrase) -> Result<Proposal, Declined>
-    ensures refused { (h : History) → StandsFor archive.now h → (why : Refusal) → IsErrOf result (Declined.Refused why) → Certifies h word.now (Refused why) }
-    ensures certifies { (h : History) → StandsFor archive.now h → IfOk result (λ p. Certifies h word.now (Proposed p.segments.items p.nodes.items p.space)) }
+    ensures refused { (h : History) → StandsFor archive.now h → (why : Refusal) → IsErrOf result (Declined.Refused why)
+        → Certifies h word.now (Refused why) }
+    ensures certifies { (h : History) → StandsFor archive.now h
+        → IfOk result (λ p. Certifies h word.now (Proposed p.segments.items p.nodes.items p.space)) }
 {
     let Some(key) = one_term(alloc, word.as_str())? else {
         return Err(Declined::Refused(Refusal::NotOneTerm));
@@ -58,8 +63,10 @@ fn certificate_of(alloc: Global, archive: &Archive, word: &Phrase) -> Result<Pro
 
 /// The certificate of a word's live plan.
 fn certificate_of_word(alloc: Global, archive: &Archive, word: &Key) -> Result<Proposal, Declined>
-    ensures refused { (h : History) → StandsFor archive.now h → (why : Refusal) → IsErrOf result (Declined.Refused why) → CertifiesLive h (plan_of h word.now) (Refused why) }
-    ensures certifies { (h : History) → StandsFor archive.now h → IfOk result (λ p. CertifiesLive h (plan_of h word.now) (Proposed p.segments.items p.nodes.items p.space)) }
+    ensures refused { (h : History) → StandsFor archive.now h → (why : Refusal) → IsErrOf result (Declined.Refused why)
+        → CertifiesLive h (plan_of h word.now) (Refused why) }
+    ensures certifies { (h : History) → StandsFor archive.now h
+        → IfOk result (λ p. CertifiesLive h (plan_of h word.now) (Proposed p.segments.items p.nodes.items p.space)) }
 {
     let Some(stored) = archive.shelf().plan_of(word) else {
         return Err(Declined::Refused(Refusal::NoPlan));
@@ -82,7 +89,8 @@ fn certificate_of_plan(
 ) -> Result<Proposal, AllocError>
     requires live { (h : History) → StandsFor archive.now h → plan_of h plan.now.word ≡ Some plan.now }
     requires kind { plan.now.kind ≡ Kind.Guarantee }
-    ensures { (h : History) → StandsFor archive.now h → IfOk result (λ p. CertifiesPlan h plan.now Kind.Guarantee (Proposed p.segments.items p.nodes.items p.space)) }
+    ensures { (h : History) → StandsFor archive.now h
+        → IfOk result (λ p. CertifiesPlan h plan.now Kind.Guarantee (Proposed p.segments.items p.nodes.items p.space)) }
 {
     let list = archive.list_until(alloc, &plan.word, plan.horizon)?;
     if list.is_empty() || are_many(&list) {
@@ -97,7 +105,8 @@ fn certified(alloc: Global, list: &[Posting], plan: &PlanEntry) -> Result<Propos
     requires some { 0 < length list.now }
     requires few { length list.now < 2 ^ 38 }
     requires early { All (λ p. p.span.to ≤ plan.now.horizon.seconds) list.now }
-    ensures { IfOk result (λ p. IsFitPlan list.now plan.now.fraction plan.now.cuts plan.now.horizon.seconds → IsCertificate list.now plan.now.fraction plan.now.cuts plan.now.horizon.seconds p.segments.items p.nodes.items p.space) }
+    ensures { IfOk result (λ p. IsFitPlan list.now plan.now.fraction plan.now.cuts plan.now.horizon.seconds
+        → IsCertificate list.now plan.now.fraction plan.now.cuts plan.now.horizon.seconds p.segments.items p.nodes.items p.space) }
 {
     let table = Table::new(alloc, list, plan.horizon)?;
     let Ok((_, certificate)) = planned(alloc, &table, plan.fraction) else {

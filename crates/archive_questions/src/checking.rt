@@ -37,7 +37,8 @@ pub fn verify<D: Disk>(
     // Whatever the disk holds, if it tells: the verdict is by what reads give, and by where the entries say that texts and sublists lie.
     ensures checked { D.disk_tells → (h : History) → StandsFor archive.now h → IfOk result (IsChecked h (D.disk disk.old).holds) }
     // In step by what reads give, whatever lies in Pages, it is a step.
-    ensures by_reads { D.disk_tells → (s : Store) → AreInStepBy (D.disk disk.old) archive.now s → TakesBy s (items.Command commands.Verify) (verified result) (D.disk disk.old) (D.disk disk.new) archive.now }
+    ensures by_reads { D.disk_tells → (s : Store) → AreInStepBy (D.disk disk.old) archive.now s
+        → TakesBy s (items.Command commands.Verify) (verified result) (D.disk disk.old) (D.disk disk.new) archive.now }
 {
     let plans = archive.shelf().plans();
     archive_check::verify(alloc, disk, archive.journal(), archive.directory(), plans)

@@ -35,7 +35,8 @@ pub(crate) fn parts_of<D: Disk>(
     ensures only { D.Disk.only disk.old disk.new }
     ensures after { AfterFetching D.disk_tells result (D.disk disk.old) (D.disk disk.new) archive.old archive.new }
     ensures many { IfOk result (λ parts. length parts.items ≡ length words.now) }
-    ensures fetched { Fetches D.disk_tells span.from span.to words.now (λ h parts. AreChosen h (D.disk disk.old).holds.pages span.from span.to words.now parts.items)
+    ensures fetched { Fetches D.disk_tells span.from span.to words.now
+        (λ h parts. AreChosen h (D.disk disk.old).holds.pages span.from span.to words.now parts.items)
         result (D.disk disk.old) (D.disk disk.new) archive.old archive.new }
 {
     let mut parts = Vec::new(alloc);
@@ -61,10 +62,13 @@ fn part_of<D: Disk>(
     ensures only { D.Disk.only disk.old disk.new }
     ensures after { AfterFetching D.disk_tells result (D.disk disk.old) (D.disk disk.new) archive.old archive.new }
     ensures chosen { D.disk_tells → (h : History) → StandsFor archive.old h → CacheStands (D.disk disk.old) archive.old →
-        IfOk result (λ part. IsChosenOf h (D.disk disk.old).holds.pages word.now (plan_of h word.now) span.from span.to part.list.items part.read) }
+        IfOk result (λ part. IsChosenOf h (D.disk disk.old).holds.pages word.now (plan_of h word.now) span.from span.to part.list.items
+        part.read) }
     ensures asked { D.disk_tells → (h : History) → StandsFor archive.old h → CacheStands (D.disk disk.old) archive.old →
-        OnOk result (HasAsked (pieces_chosen (D.disk disk.old).holds.pages (plan_of h word.now) span.from span.to) archive.old.shelf.cache archive.new.shelf.cache (D.disk disk.old) (D.disk disk.new)) }
-    ensures damaged { D.disk_tells → (h : History) → StandsFor archive.old h → CacheStands (D.disk disk.old) archive.old → (d : Damage) → IsErrOf result (FetchError.Damaged d) → IsDamagedFor h (D.disk disk.old).holds.pages word.now span.from span.to d }
+        OnOk result (HasAsked (pieces_chosen (D.disk disk.old).holds.pages (plan_of h word.now) span.from span.to) archive.old.shelf.cache
+        archive.new.shelf.cache (D.disk disk.old) (D.disk disk.new)) }
+    ensures damaged { D.disk_tells → (h : History) → StandsFor archive.old h → CacheStands (D.disk disk.old) archive.old → (d : Damage)
+        → IsErrOf result (FetchError.Damaged d) → IsDamagedFor h (D.disk disk.old).holds.pages word.now span.from span.to d }
 {
     let Some(at) = archive.shelf().position(word) else {
         let part = archive.index().part_in(alloc, word, span)?;

@@ -40,10 +40,13 @@ pub fn propose(
 ) -> Result<Proposal, Declined>
     // Whatever history it stands for: a refusal comes exactly where that has the cause (unless memory runs out), and what is proposed is
     // of it.
-    ensures refused { (h : History) → StandsFor archive.now h → (why : Refusal) → IsErrOf result (Declined.Refused why) → Proposes h word.now factor (Refused why) }
-    ensures proposes { (h : History) → StandsFor archive.now h → IfOk result (λ p. Proposes h word.now factor (Proposed p.segments.items p.nodes.items p.space)) }
+    ensures refused { (h : History) → StandsFor archive.now h → (why : Refusal) → IsErrOf result (Declined.Refused why)
+        → Proposes h word.now factor (Refused why) }
+    ensures proposes { (h : History) → StandsFor archive.now h
+        → IfOk result (λ p. Proposes h word.now factor (Proposed p.segments.items p.nodes.items p.space)) }
     // In step by what reads give, whatever lies in Pages, it is a step.
-    ensures by_reads { (d : DiskState) (s : Store) → AreInStepBy d archive.now s → TakesBy s (items.Command (commands.Propose word.now factor)) (proposed result) d d archive.now }
+    ensures by_reads { (d : DiskState) (s : Store) → AreInStepBy d archive.now s
+        → TakesBy s (items.Command (commands.Propose word.now factor)) (proposed result) d d archive.now }
 {
     let sealed = archive.sealed(alloc, word)?;
     least_plan(alloc, &sealed.list, sealed.horizon, factor)
@@ -59,8 +62,11 @@ fn least_plan(
     requires some { 0 < length list.now }
     requires few { length list.now < 2 ^ 38 }
     requires early { All (λ p. p.span.to ≤ horizon.seconds) list.now }
-    ensures refused { (why : Refusal) → IsErrOf result (Declined.Refused why) → OfBoundaries horizon.seconds list.now (λ because. why ≡ because) ⊥ }
-    ensures least { IfOk result (λ p. OfBoundaries horizon.seconds list.now (λ because. ⊥) (IsProposal list.now factor horizon.seconds p.segments.items p.nodes.items p.space)) }
+    ensures refused { (why : Refusal) → IsErrOf result (Declined.Refused why)
+        → OfBoundaries horizon.seconds list.now (λ because. why ≡ because) ⊥ }
+    ensures least { IfOk result
+        (λ p. OfBoundaries horizon.seconds list.now (λ because. ⊥)
+        (IsProposal list.now factor horizon.seconds p.segments.items p.nodes.items p.space)) }
 {
     let table = Table::new(alloc, list, horizon)?;
     let (partition, certificate) = planned(alloc, &table, factor)?;
@@ -75,10 +81,13 @@ pub(crate) fn planned(
     factor: Fraction,
 ) -> Result<(Partition, Certificate), Declined>
     ensures within { IfOk result (λ _. length table.now.boundaries ≤ widest) }
-    ensures refused { (why : Refusal) → IsErrOf result (Declined.Refused why) → (widest < length table.now.boundaries) × (why ≡ Refusal.TooWide (length table.now.boundaries)) }
+    ensures refused { (why : Refusal) → IsErrOf result (Declined.Refused why) → (widest < length table.now.boundaries)
+        × (why ≡ Refusal.TooWide (length table.now.boundaries)) }
     ensures fits { IfOk result (λ p. IsFitting table.now.boundaries p.0) }
-    ensures least { IfOk result (λ p. (list : List PlainPosting) (horizon : ℕ) → Tabulates list horizon table.now → IsLeast list factor (slice_index p.0 0) (drop 1 p.0) horizon) }
-    ensures best { IfOk result (λ p. (list : List PlainPosting) (horizon : ℕ) → Tabulates list horizon table.now → AreBest list factor horizon table.now.boundaries p.1) }
+    ensures least { IfOk result (λ p. (list : List PlainPosting) (horizon : ℕ) → Tabulates list horizon table.now
+        → IsLeast list factor (slice_index p.0 0) (drop 1 p.0) horizon) }
+    ensures best { IfOk result (λ p. (list : List PlainPosting) (horizon : ℕ) → Tabulates list horizon table.now
+        → AreBest list factor horizon table.now.boundaries p.1) }
 {
     match plan(alloc, table, factor) {
         Ok(planned) => Ok(planned),

@@ -48,7 +48,8 @@ pub fn between<D: Disk>(
 ) -> Result<SpanAnswer, AskError>
     requires within { Reaches (D.disk disk.old).reach archive.old }
     ensures only { D.Disk.only disk.old disk.new }
-    ensures after { AfterQuestion D.disk_tells expr.now span.from span.to (λ h query answer. IsMadeOver h (D.disk disk.old).holds.pages span.from span.to query answer.rows.items answer.read)
+    ensures after { AfterQuestion D.disk_tells expr.now span.from span.to
+        (λ h query answer. IsMadeOver h (D.disk disk.old).holds.pages span.from span.to query answer.rows.items answer.read)
         result (D.disk disk.old) (D.disk disk.new) archive.old archive.new }
     // In step by what reads give, whatever lies in Pages, it is a step.
     ensures by_reads { D.disk_tells → (s : Store) → AreInStepBy (D.disk disk.old) archive.old s →
@@ -71,7 +72,8 @@ fn span_answer_of<D: Disk>(
     requires within { Reaches (D.disk disk.old).reach archive.old }
     ensures only { D.Disk.only disk.old disk.new }
     ensures after { AfterFetching D.disk_tells result (D.disk disk.old) (D.disk disk.new) archive.old archive.new }
-    ensures fetched { Fetches D.disk_tells span.from span.to (words_of query.now) (λ h answer. IsMadeOver h (D.disk disk.old).holds.pages span.from span.to query.now answer.rows.items answer.read)
+    ensures fetched { Fetches D.disk_tells span.from span.to (words_of query.now)
+        (λ h answer. IsMadeOver h (D.disk disk.old).holds.pages span.from span.to query.now answer.rows.items answer.read)
         result (D.disk disk.old) (D.disk disk.new) archive.old archive.new }
 {
     let parts = parts_of(alloc, disk, archive, query.words(), span)?;
@@ -89,7 +91,9 @@ fn span_answer_by(
 ) -> Result<SpanAnswer, AllocError>
     requires { length parts.now ≡ length (words_of query.now) }
     ensures read { IfOk result (λ answer. answer.read ≡ read_of parts.now) }
-    ensures rows { (h : History) (pages : List ℕ) → StandsFor archive.now h → AreChosen h pages span.from span.to (words_of query.now) parts.now → IfOk result (λ answer. IsSpanAnswer (λ doc t. is_some (text_at h doc t))
+    ensures rows { (h : History) (pages : List ℕ) → StandsFor archive.now h
+        → AreChosen h pages span.from span.to (words_of query.now) parts.now
+        → IfOk result (λ answer. IsSpanAnswer (λ doc t. is_some (text_at h doc t))
         (λ doc t. told (words_of query.now) parts.now t doc.0) query.now span.from span.to answer.rows.items) }
 {
     if query.matches_without_words() {

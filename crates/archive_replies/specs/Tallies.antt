@@ -32,7 +32,8 @@ tally_of replies = record {
 -- the line of the counts
 abbrev pub tally_text : ℕ → Tally → List ℕ
 tally_text changes tally =
-    codes "generated " ++ decimal changes ++ codes " accepted " ++ decimal tally.accepted ++ codes " refused " ++ decimal tally.refused ++ codes " hits " ++ decimal tally.hits
+    codes "generated " ++ decimal changes ++ codes " accepted " ++ decimal tally.accepted ++ codes " refused " ++ decimal tally.refused
+    ++ codes " hits " ++ decimal tally.hits
     ++ codes " read " ++ decimal tally.read ++ 10 ∷ []
 
 -- two lines: the counts of a sample with so many changes, and what its check told

@@ -1,5 +1,5 @@
 //! Times, and the spans between two of them.
-ghost use Rattle.std.specs.Prelude.{◌≡◌, ◌<◌, ◌≤◌, ◌^◌, ◌↔◌, IsTrue, IsSome, IfSome};
+ghost use Rattle.std.specs.Prelude.{◌≡◌, ◌<◌, ◌≤◌, ◌^◌, ◌↔◌, ◌&&◌, nat_lt, IsTrue, IsSome, IfSome};
 
 /// The end of time: greater than every time, and the end of each span that is still open.
 pub const NOW: u64 = 1 << 40;
@@ -56,6 +56,13 @@ impl Span {
         } else {
             None
         }
+    }
+
+    /// Whether it holds a time from the first on and before the other, in seconds. Constant cost.
+    pub fn meets(self, from: u64, to: u64) -> bool
+        ensures { result ≡ (nat_lt self.from to && nat_lt from self.to) }
+    {
+        self.from < to && from < self.to
     }
 
     /// Whether the span holds the time: its start it does, its end it doesn't. Constant cost.

@@ -16,7 +16,8 @@ kind_bytes (Since at) = 3 ∷ to_be_bytes w64 at.seconds
 
 -- the 52 bytes of a segment: its left cut, and the place of its sublist
 abbrev pub segment_bytes : Time → Place → List ℕ
-segment_bytes cut place = to_be_bytes w64 cut.seconds ++ (to_be_bytes w32 place.extent.first ++ (to_be_bytes w64 place.extent.bytes ++ place.digest))
+segment_bytes cut place = to_be_bytes w64 cut.seconds
+    ++ (to_be_bytes w32 place.extent.first ++ (to_be_bytes w64 place.extent.bytes ++ place.digest))
 
 -- the bytes of segments, one after another
 abbrev pub segments_bytes : List Time → List Place → List ℕ
@@ -27,7 +28,8 @@ segments_bytes (cut ∷ cuts) (place ∷ places) = segment_bytes cut place ++ se
 -- the bytes of a plan: the tag, the fields, and the segments
 unfoldable pub plan_bytes : PlanEntry → List ℕ
 plan_bytes p =
-    3 ∷ layout_byte p.layout ∷ (kind_bytes p.kind ++ (to_be_bytes w32 p.fraction.over ++ (to_be_bytes w32 p.fraction.under ++ (to_be_bytes w64 p.horizon.seconds
+    3 ∷ layout_byte p.layout
+    ∷ (kind_bytes p.kind ++ (to_be_bytes w32 p.fraction.over ++ (to_be_bytes w32 p.fraction.under ++ (to_be_bytes w64 p.horizon.seconds
     ++ (length p.word ∷ (p.word ++ (to_be_bytes w32 (length p.cuts) ++ segments_bytes p.cuts p.places)))))))
 
 -- how many bytes a kind takes

@@ -124,4 +124,12 @@ plan_at bytes = do
   count ← number_in 1 most_segments word.1
   segments ← segments_at count.0 0 horizon.0 count.1
   end ← end_at segments.1
-  Ok (record { word = word.0; layout = layout.0; kind = kind.0; fraction = fraction.0; horizon = horizon.0; cuts = segments.0.0; places = segments.0.1 })
+  Ok (record {
+    word = word.0;
+    layout = layout.0;
+    kind = kind.0;
+    fraction = fraction.0;
+    horizon = horizon.0;
+    cuts = segments.0.0;
+    places = segments.0.1;
+  })

@@ -32,12 +32,14 @@ abbrev pub segments_fields : List Time → List Place → List (List ℕ)
 segments_fields [] places = []
 segments_fields (cut ∷ cuts) [] = []
 segments_fields (cut ∷ cuts) (place ∷ places) =
-    to_be_bytes w64 cut.seconds ∷ to_be_bytes w32 place.extent.first ∷ to_be_bytes w64 place.extent.bytes ∷ place.digest ∷ segments_fields cuts places
+    to_be_bytes w64 cut.seconds ∷ to_be_bytes w32 place.extent.first ∷ to_be_bytes w64 place.extent.bytes ∷ place.digest
+    ∷ segments_fields cuts places
 
 -- the fields of a plan, from its tag on, where `count` is written as the number of its segments
 abbrev pub plan_fields : ℕ → PlanEntry → List (List ℕ)
 plan_fields count p =
-    (3 ∷ []) ∷ (layout_byte p.layout ∷ []) ∷ (kind_fields p.kind ++ (to_be_bytes w32 p.fraction.over ∷ to_be_bytes w32 p.fraction.under ∷ to_be_bytes w64 p.horizon.seconds
+    (3 ∷ []) ∷ (layout_byte p.layout ∷ [])
+    ∷ (kind_fields p.kind ++ (to_be_bytes w32 p.fraction.over ∷ to_be_bytes w32 p.fraction.under ∷ to_be_bytes w64 p.horizon.seconds
     ∷ (length p.word ∷ []) ∷ p.word ∷ to_be_bytes w32 count ∷ segments_fields p.cuts p.places))
 
 -- the bytes of a plan: those of its fields

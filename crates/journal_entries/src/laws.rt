@@ -18,7 +18,8 @@ pub fn spelling_laws()
     // A spelling is no fault.
     ensures no_fault { (e : Entry) → IsEntry e → (at : ℕ) → ¬ (IsFault (spelling e) at) }
     // Bytes that spell no entry have a fault, which is in them or at their end.
-    ensures a_fault { (bytes : List ℕ) → All (λ b. b < 256) bytes → ((e : Entry) → IsEntry e → bytes ≢ spelling e) → (at : ℕ) × IsFault bytes at }
+    ensures a_fault { (bytes : List ℕ) → All (λ b. b < 256) bytes → ((e : Entry) → IsEntry e → bytes ≢ spelling e)
+        → (at : ℕ) × IsFault bytes at }
     ensures one_fault { (bytes : List ℕ) (a b : ℕ) → IsFault bytes a → IsFault bytes b → a ≡ b }
     ensures in_body { (bytes : List ℕ) (at : ℕ) → IsFault bytes at → at ≤ length bytes }
     // The journal's length of a record holds a spelling's.
@@ -28,7 +29,8 @@ pub fn spelling_laws()
 
 /// The fields of an entry are its spelling, up to an arrival's text. Does nothing.
 pub fn field_laws()
-    ensures arrived { (count : ℕ) (doc : DocId) (at : Time) (text : List ℕ) → spelling (Arrive doc at text) ≡ concat (fields count (Arrive doc at text)) ++ text }
+    ensures arrived { (count : ℕ) (doc : DocId) (at : Time) (text : List ℕ)
+        → spelling (Arrive doc at text) ≡ concat (fields count (Arrive doc at text)) ++ text }
     ensures deleted { (count : ℕ) (doc : DocId) (at : Time) → spelling (Delete doc at) ≡ concat (fields count (Delete doc at)) }
     ensures planned { (p : PlanEntry) → spelling (Planned p) ≡ concat (fields (length p.cuts) (Planned p)) }
     ensures marked { (count : ℕ) → spelling Format ≡ concat (fields count Format) }

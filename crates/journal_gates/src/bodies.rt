@@ -48,7 +48,8 @@ impl Journal {
         requires row { AreInRow first_gate heads.now self.now.end }
         ensures end { result.window.end ≡ self.now.end }
         ensures behind { AreBehind heads.now [] result }
-        ensures left { (journal : List ℕ) (bodies : List (List ℕ)) → Spells journal bodies → heads.now ≡ heads_of first_gate bodies → AreLeft journal result bodies }
+        ensures left { (journal : List ℕ) (bodies : List (List ℕ)) → Spells journal bodies → heads.now ≡ heads_of first_gate bodies
+            → AreLeft journal result bodies }
     {
         Bodies {
             left: heads,
@@ -73,10 +74,12 @@ impl<'a> Bodies<'a> {
         ensures next { IfOk result (λ o. MatchOption o (self.old.left ≡ []) (IsNext self.old self.new)) }
         // It gives the heads of a row one after another,
         ensures behind { (heads : List PlainHead) (bodies : List (List ℕ)) → AreBehind heads bodies self.old →
-            IfOk result (λ o. IfSome o (λ head. (head.gate ≡ length (front bodies)) × AreBehind heads (bodies ++ body_at self.new head ∷ []) self.new)) }
+            IfOk result (λ o. IfSome o (λ head. (head.gate ≡ length (front bodies))
+            × AreBehind heads (bodies ++ body_at self.new head ∷ []) self.new)) }
         // and the bodies of the journal.
         ensures left { D.disk_tells → (bodies : List (List ℕ)) → AreLeft (D.disk disk.old).holds.journal self.old bodies →
-            IfOk result (λ o. MatchOption o (bodies ≡ []) (λ head. (rest : List (List ℕ)) × (bodies ≡ body_at self.new head ∷ rest) × AreLeft (D.disk disk.old).holds.journal self.new rest)) }
+            IfOk result (λ o. MatchOption o (bodies ≡ []) (λ head. (rest : List (List ℕ)) × (bodies ≡ body_at self.new head ∷ rest)
+            × AreLeft (D.disk disk.old).holds.journal self.new rest)) }
     {
         let Some((head, behind)) = self.left.split_first() else {
             return Ok(None);

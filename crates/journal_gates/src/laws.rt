@@ -34,5 +34,9 @@ pub fn a_disk_stays_in_step()
 pub fn heads_lead_to_bodies()
     ensures bodies { (bytes : List ℕ) (bodies : List (List ℕ)) → Spells bytes bodies → AreBodies bytes (heads_of first_gate bodies) bodies }
     ensures more { (bodies : List (List ℕ)) (body : List ℕ) → let gate = length (front bodies) in
-        heads_of first_gate (bodies ++ body ∷ []) ≡ heads_of first_gate bodies ++ record { gate = gate; body = gate + gate_bytes; bytes = length body } ∷ [] }
+        heads_of first_gate (bodies ++ body ∷ []) ≡ heads_of first_gate bodies ++ record {
+          gate = gate;
+          body = gate + gate_bytes;
+          bytes = length body;
+        } ∷ [] }
 {}

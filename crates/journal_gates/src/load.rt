@@ -85,7 +85,8 @@ impl Journal {
         // No image changes, and no length.
         ensures same { OnlyReads (D.disk disk.old) (D.disk disk.new) }
         ensures failed { IsErrOf result JournalError.Failed → Rose (D.disk disk.old).faults (D.disk disk.new).faults }
-        ensures new { IfOk result (λ o. MatchOption o ((D.disk disk.old).reach.journal ≤ new_bytes) (λ p. new_bytes < (D.disk disk.old).reach.journal)) }
+        ensures new { IfOk result
+            (λ o. MatchOption o ((D.disk disk.old).reach.journal ≤ new_bytes) (λ p. new_bytes < (D.disk disk.old).reach.journal)) }
         ensures not_live { IfOk result (λ o. IfSome o (λ p. ¬ (IsTrue p.0.live))) }
         ensures least { IfOk result (λ o. IfSome o (λ p. new_bytes ≤ p.0.end)) }
         ensures within { IfOk result (λ o. IfSome o (λ p. p.0.end ≤ (D.disk disk.new).reach.journal)) }

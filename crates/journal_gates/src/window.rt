@@ -56,7 +56,8 @@ impl Window {
         ensures fair { (at : ℕ) → IsErrOf result (JournalError.NotJournal at) → ⊥ }
         ensures end { self.new.end ≡ self.old.end }
         ensures covers { OnOk result (Covers self.new at count) }
-        ensures view { D.disk_tells → IsView self.old (D.disk disk.old).holds.journal → OnOk result (IsView self.new (D.disk disk.old).holds.journal) }
+        ensures view { D.disk_tells → IsView self.old (D.disk disk.old).holds.journal
+            → OnOk result (IsView self.new (D.disk disk.old).holds.journal) }
     {
         let behind = at + u64::from(count);
         if at < self.from || (self.bytes.len() as u64) < behind - self.from {

@@ -56,7 +56,8 @@ pub record Goes (Tells : Type 0) (before after : List ℕ) (old new : PacketsSta
 
 -- What the call says in the end: there are bytes that the source gave, and with them it answers.
 abbrev pub Answers : Type 0 → List ℕ → List ℕ → PacketsState → PacketsState → Result (Option Packet) PacketError → Type 0
-Answers Tells before after old new result = (pulled : List ℕ) × (Tells → before ≡ pulled ++ after) × Says (old.bytes ++ pulled) old.passed result new
+Answers Tells before after old new result = (pulled : List ℕ) × (Tells → before ≡ pulled ++ after)
+    × Says (old.bytes ++ pulled) old.passed result new
 
 -- How often a reader may still pull.
 abbrev pub rounds : PacketsState → ℕ

@@ -41,7 +41,8 @@ StreamsAreReadInOneWay = (these those : List Framed) (rest more : List ℕ) → 
 
 -- Bytes that begin a stream are never bad while more may come.
 abbrev pub FrontsOfStreamsAreNotBad : Type 0
-FrontsOfStreamsAreNotBad = (packets : List Framed) (front more : List ℕ) → All IsFramed packets → front ++ more ≡ stream packets → first false front ≡ Bad → ⊥
+FrontsOfStreamsAreNotBad = (packets : List Framed) (front more : List ℕ) → All IsFramed packets → front ++ more ≡ stream packets
+    → first false front ≡ Bad → ⊥
 
 -- What is exported of entries, from any of them on, is a stream of them, where each has room in a packet and all have numbers.
 abbrev pub ExportsAreStreams : Type 0

@@ -40,7 +40,8 @@ impl Model for Packets {
 
     ghost view = { λ r. record { bytes = drop r.start r.buffer.items; passed = r.passed; ended = r.ended } };
 
-    ghost invariant = { λ r. (r.start ≤ length r.buffer.items) × (r.passed + length (drop r.start r.buffer.items) ≤ 2 ^ 40) × (length r.block.items ≡ 65536) };
+    ghost invariant = { λ r. (r.start ≤ length r.buffer.items) × (r.passed + length (drop r.start r.buffer.items) ≤ 2 ^ 40)
+        × (length r.block.items ≡ 65536) };
 }
 
 impl Packets {
@@ -85,7 +86,8 @@ impl Packets {
             × (S.source_tells → All (IsAwaited self.old.bytes (S.source source.old).left) lefts) }
         ensures bound { taken self.new ≤ 2 ^ 40 }
         // The end, once told, is the source's.
-        ensures end { S.source_tells → (self.old.ended ≡ true → (S.source source.old).left ≡ []) → self.new.ended ≡ true → (S.source source.new).left ≡ [] }
+        ensures end { S.source_tells → (self.old.ended ≡ true → (S.source source.old).left ≡ []) → self.new.ended ≡ true
+            → (S.source source.new).left ≡ [] }
     {
         'rounds: loop {
             match self.front() {
@@ -146,7 +148,8 @@ impl Packets {
     fn pull<S: Source>(&mut self, source: &mut S) -> Result<(), PacketError>
         requires { self.old.ended ≡ false }
         ensures only { S.only source.old source.new }
-        ensures asked { (lefts : List (List ℕ)) × S.pulled source.old lefts source.new × All (λ left. left ≡ (S.source source.old).left) lefts }
+        ensures asked { (lefts : List (List ℕ)) × S.pulled source.old lefts source.new
+            × All (λ left. left ≡ (S.source source.old).left) lefts }
         ensures rose { IsErrOf result PacketError.Failed → Rose (S.source source.old).faults (S.source source.new).faults }
         ensures bytes { (pulled : List ℕ) × (S.source_tells → (S.source source.old).left ≡ pulled ++ (S.source source.new).left)
             × (self.new.bytes ≡ self.old.bytes ++ pulled) }

@@ -22,7 +22,8 @@ IsNearAll tolerance list d a b r = (t : ℕ) → a ≤ t → t < b → IsNear to
 pub record IsLongestFirst (tolerance : Tolerance) (list short : List Posting) : Type 0 where
   pub ordered : IsList short
   pub near : Approximates tolerance short list
-  pub longest : (other : List Posting) (p q : Posting) → IsList other → Approximates tolerance other list → Contains short p → Contains other q
+  pub longest : (other : List Posting) (p q : Posting) → IsList other → Approximates tolerance other list → Contains short p
+      → Contains other q
       → q.doc.0 ≡ p.doc.0 → q.span.from ≡ p.span.from → q.span.to ≤ p.span.to
   pub least : (p : Posting) (r : ℕ) → Contains short p → IsNearAll tolerance list p.doc.0 p.span.from p.span.to r → p.tf ≤ r
 

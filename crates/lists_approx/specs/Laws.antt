@@ -6,11 +6,13 @@ use Rattle.base_types.specs.declared.tolerance.Tolerance.{Tolerance}
 
 -- A list has at most one longest-first approximation.
 abbrev pub OneLongestFirst : Type 0
-OneLongestFirst = (tolerance : Tolerance) (list one other : List Posting) → IsLongestFirst tolerance list one → IsLongestFirst tolerance list other → one ≡ other
+OneLongestFirst = (tolerance : Tolerance) (list one other : List Posting) → IsLongestFirst tolerance list one
+    → IsLongestFirst tolerance list other → one ≡ other
 
 -- A longest-first approximation is fewest.
 abbrev pub LongestFirstIsFewest : Type 0
-LongestFirstIsFewest = (tolerance : Tolerance) (list short : List Posting) → IsLongestFirst tolerance list short → IsFewest tolerance list short
+LongestFirstIsFewest = (tolerance : Tolerance) (list short : List Posting) → IsLongestFirst tolerance list short
+    → IsFewest tolerance list short
 
 -- A frequency that is near another is 0 exactly where that is.
 abbrev pub NearIsThere : Type 0

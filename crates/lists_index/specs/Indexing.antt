@@ -15,7 +15,8 @@ pub record IndexValue : Type 0 where
 
 -- the weights of a document are those of its newest version: from its last change on it has each word so often
 abbrev pub AreOpen : List (Change (List ℕ)) → ℕ → (ℕ → ℕ) → Type 0
-AreOpen changes d weights = (w t : ℕ) → All (λ c. c.at.seconds ≤ t) (changes_of (record { 0 = d }) changes) → weights w ≡ often changes w d t
+AreOpen changes d weights = (w t : ℕ) → All (λ c. c.at.seconds ≤ t) (changes_of (record { 0 = d }) changes)
+    → weights w ≡ often changes w d t
 
 -- an index of these changes, with the list of each word
 pub record AreIndexed (value : IndexValue) (changes : List (Change (List ℕ))) : Type 0 where

@@ -24,7 +24,8 @@ pub record AreLoaded (value : Loaded) (changes : List (Change (List ℕ))) : Typ
   pub frequency_is : (w d t : ℕ) → frequency_after (acts_of value.turns) w d t ≡ often changes w d t
   pub open_are : (d : ℕ) → AreOpen changes d (λ w. open_after (acts_of value.turns) w d)
   pub in_order : AreInOrder (acts_of value.turns)
-  pub later : (doc at : ℕ) → All (λ c. c.at.seconds < at) (changes_of (record { 0 = doc }) changes) → All (LetsTurn doc at) (acts_of value.turns)
+  pub later : (doc at : ℕ) → All (λ c. c.at.seconds < at) (changes_of (record { 0 = doc }) changes)
+      → All (LetsTurn doc at) (acts_of value.turns)
   pub ascending : All (λ x. AreWeights x.weights.items) value.turns
   pub few : length value.turns ≤ 2 ^ 40
 

@@ -36,7 +36,8 @@ IsWordList changes word list = IsListOf (frequency_in changes word) 0 (2 ^ 40) l
 
 -- what the list of a word has in [a, b), and the length of that list
 abbrev pub IsWordPart : List (Change (List ℕ)) → List ℕ → ℕ → ℕ → List Posting → ℕ → Type 0
-IsWordPart changes word a b rows whole = (list : List Posting) × IsWordList changes word list × (rows ≡ sublist a b list) × (whole ≡ length list)
+IsWordPart changes word a b rows whole = (list : List Posting) × IsWordList changes word list × (rows ≡ sublist a b list)
+    × (whole ≡ length list)
 
 -- how often a text has the word of a number, if there is one
 abbrev pub count_of : Option (List ℕ) → Option (List ℕ) → ℕ

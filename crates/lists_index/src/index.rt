@@ -33,7 +33,8 @@ impl Index {
     /// The word's list; empty for a word that no text has. It costs one look-up
     /// and a copy of the list; an `Err` means that memory ran out.
     pub fn list(&self, alloc: Global, word: &Key) -> Result<Vec<Posting>, AllocError>
-        ensures list { (changes : List (Change (List ℕ))) → Indexes (state_of self.now) changes → IfOk result (λ list. IsWordList changes word.now list.items) }
+        ensures list { (changes : List (Change (List ℕ))) → Indexes (state_of self.now) changes
+            → IfOk result (λ list. IsWordList changes word.now list.items) }
         ensures short { IfOk result (λ list. length list.items ≤ 2 ^ 40) }
     {
         match self.vocabulary.find(word) {
@@ -45,7 +46,8 @@ impl Index {
     /// What the word's list has in the span, and how long that list is. It costs one look-up and one
     /// pass over the list, and copies what it gives; an `Err` means that memory ran out.
     pub fn part_in(&self, alloc: Global, word: &Key, span: Span) -> Result<ListPart, AllocError>
-        ensures { (changes : List (Change (List ℕ))) → Indexes (state_of self.now) changes → IfOk result (λ part. IsWordPart changes word.now span.from span.to part.rows.items part.whole) }
+        ensures { (changes : List (Change (List ℕ))) → Indexes (state_of self.now) changes
+            → IfOk result (λ part. IsWordPart changes word.now span.from span.to part.rows.items part.whole) }
     {
         match self.vocabulary.find(word) {
             Some(id) => self.tails.part_in(alloc, id, span),
@@ -58,7 +60,8 @@ impl Index {
 
     /// Whether some text has the word. It costs one look-up.
     pub fn knows(&self, word: &Key) -> bool
-        ensures { (changes : List (Change (List ℕ))) → Indexes (state_of self.now) changes → (IsTrue result ↔ Contains (words_in changes) word.now) }
+        ensures { (changes : List (Change (List ℕ))) → Indexes (state_of self.now) changes
+            → (IsTrue result ↔ Contains (words_in changes) word.now) }
     {
         self.number(word).is_some()
     }
@@ -92,7 +95,8 @@ impl Index {
         ensures same { state_of self.new ≡ state_of self.old }
         ensures fits { OnOk result ((changes : List (Change (List ℕ))) (c : Change (List ℕ)) → Indexes (state_of self.old) changes
             → c.held ≡ option_map (λ t. t.now) text.entry → length (words_in (changes ++ c ∷ [])) ≤ 2 ^ 20) }
-        ensures full { result ≡ Err NumberError.Full → (changes : List (Change (List ℕ))) (c : Change (List ℕ)) → Indexes (state_of self.old) changes
+        ensures full { result ≡ Err NumberError.Full → (changes : List (Change (List ℕ))) (c : Change (List ℕ))
+            → Indexes (state_of self.old) changes
             → c.held ≡ option_map (λ t. t.now) text.entry → 2 ^ 20 < length (words_in (changes ++ c ∷ [])) }
         ensures some { result ≡ Err NumberError.Full → IsSome text.entry }
     {
@@ -112,7 +116,9 @@ impl Index {
         text: Option<&str>,
     ) -> Result<Vec<Key>, AllocError>
         requires { IfSome text (λ t. length t.now < 2 ^ 32) }
-        ensures keys { IfOk result (λ keys. keys.items ≡ map (λ e. e.0) (fresh_of (state_of self.old).words (counted (keys_held (option_map (λ t. t.now) text.entry))))) }
+        ensures keys { IfOk result
+            (λ keys. keys.items ≡ map (λ e. e.0)
+            (fresh_of (state_of self.old).words (counted (keys_held (option_map (λ t. t.now) text.entry))))) }
         ensures same { state_of self.new ≡ state_of self.old }
     {
         fresh_keys(alloc, &self.vocabulary, &mut self.places, text)

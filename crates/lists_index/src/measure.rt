@@ -37,8 +37,10 @@ fn weigh_held(
     text: Option<&str>,
 ) -> Result<Weighed, AllocError>
     requires { IfSome text (λ t. length t.now < 2 ^ 32) }
-    ensures known { IfOk result (λ w. w.known.items ≡ known_of vocabulary.now.words (counted (keys_held (option_map (λ t. t.now) text.entry)))) }
-    ensures fresh { IfOk result (λ w. w.fresh.items ≡ fresh_of vocabulary.now.words (counted (keys_held (option_map (λ t. t.now) text.entry)))) }
+    ensures known { IfOk result
+        (λ w. w.known.items ≡ known_of vocabulary.now.words (counted (keys_held (option_map (λ t. t.now) text.entry)))) }
+    ensures fresh { IfOk result
+        (λ w. w.fresh.items ≡ fresh_of vocabulary.now.words (counted (keys_held (option_map (λ t. t.now) text.entry)))) }
 {
     match text {
         Some(text) => vocabulary.weigh(alloc, places, text),
@@ -151,7 +153,8 @@ pub(crate) fn fresh_keys(
     text: Option<&str>,
 ) -> Result<Vec<Key>, AllocError>
     requires { IfSome text (λ t. length t.now < 2 ^ 32) }
-    ensures { IfOk result (λ keys. keys.items ≡ map (λ e. e.0) (fresh_of vocabulary.now.words (counted (keys_held (option_map (λ t. t.now) text.entry))))) }
+    ensures { IfOk result (λ keys. keys.items
+        ≡ map (λ e. e.0) (fresh_of vocabulary.now.words (counted (keys_held (option_map (λ t. t.now) text.entry))))) }
 {
     let weighed = weigh_held(alloc, vocabulary, places, text)?;
     let parted = part(alloc, weighed)?;

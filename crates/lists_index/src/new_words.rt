@@ -41,9 +41,12 @@ impl NewWords {
     ) -> Result<(), NumberError>
         requires { IfSome text (λ t. length t.now < 2 ^ 32) }
         ensures same { state_of index.new ≡ state_of index.old }
-        ensures added { OnOk result ((changes coming : List (Change (List ℕ))) (c : Change (List ℕ)) → Indexes (state_of index.old) changes → Brings self.old changes coming
-            → c.held ≡ option_map (λ t. t.now) text.entry → Brings self.new changes (coming ++ c ∷ []) × (length (words_in (changes ++ (coming ++ c ∷ []))) ≤ 2 ^ 20)) }
-        ensures full { result ≡ Err NumberError.Full → (changes coming : List (Change (List ℕ))) (c : Change (List ℕ)) → Indexes (state_of index.old) changes → Brings self.old changes coming
+        ensures added { OnOk result ((changes coming : List (Change (List ℕ))) (c : Change (List ℕ)) → Indexes (state_of index.old) changes
+            → Brings self.old changes coming
+            → c.held ≡ option_map (λ t. t.now) text.entry → Brings self.new changes (coming ++ c ∷ [])
+            × (length (words_in (changes ++ (coming ++ c ∷ []))) ≤ 2 ^ 20)) }
+        ensures full { result ≡ Err NumberError.Full → (changes coming : List (Change (List ℕ))) (c : Change (List ℕ))
+            → Indexes (state_of index.old) changes → Brings self.old changes coming
             → c.held ≡ option_map (λ t. t.now) text.entry → 2 ^ 20 < length (words_in (changes ++ (coming ++ c ∷ []))) }
     {
         let keys = index.fresh_keys(alloc, text)?;

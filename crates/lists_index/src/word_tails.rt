@@ -101,7 +101,8 @@ impl WordTails {
         requires new { AreWeights new.now }
         requires room_for_new { HaveRoom new.now self.old.tails }
         requires few { self.old.turns < 2 ^ 40 }
-        ensures turned { (w : ℕ) → IsTurned doc.0 at.seconds (weight_of w old.now) (weight_of w new.now) (tail_of self.old.tails w) (tail_of self.new.tails w) }
+        ensures turned { (w : ℕ)
+            → IsTurned doc.0 at.seconds (weight_of w old.now) (weight_of w new.now) (tail_of self.old.tails w) (tail_of self.new.tails w) }
     {
         self.tails.turn(doc, at, old, new);
         self.turns += 1;

@@ -13,7 +13,8 @@ OneCoalesced = (a b : List Posting) → IsList a → IsCoalesced a → IsList b 
 
 -- No list with the same rows at each time is shorter than a coalesced one.
 abbrev pub CoalescedIsShortest : Type 0
-CoalescedIsShortest = (list other : List Posting) → IsList list → IsCoalesced list → IsList other → SameRows other list → length list ≤ length other
+CoalescedIsShortest = (list other : List Posting) → IsList list → IsCoalesced list → IsList other → SameRows other list
+    → length list ≤ length other
 
 -- There is at most one list of a frequency over an interval.
 abbrev pub OneListOf : Type 0
@@ -21,7 +22,8 @@ OneListOf = (f : ℕ → ℕ → ℕ) (a b : ℕ) (x y : List Posting) → IsLis
 
 -- Clipped to a part of its interval, the list of a frequency is the list over that part.
 abbrev pub ClipOfListOf : Type 0
-ClipOfListOf = (f : ℕ → ℕ → ℕ) (a b c d : ℕ) (list clip : List Posting) → a ≤ c → d ≤ b → IsListOf f a b list → IsClip c d list clip → IsListOf f c d clip
+ClipOfListOf = (f : ℕ → ℕ → ℕ) (a b c d : ℕ) (list clip : List Posting) → a ≤ c → d ≤ b → IsListOf f a b list → IsClip c d list clip
+    → IsListOf f c d clip
 
 -- The list of a frequency has exactly the longest spans of one frequency.
 abbrev pub LongestSpans : Type 0
@@ -29,7 +31,8 @@ LongestSpans = (f : ℕ → ℕ → ℕ) (a b : ℕ) (list : List Posting) → I
 
 -- The frequency of a union is that of the list that has one.
 abbrev pub FrequencyOfUnion : Type 0
-FrequencyOfUnion = (one other union : List Posting) → IsList one → IsList other → IsUnion one other union → (d t : ℕ) → frequency d t union ≡ frequency d t (one ++ other)
+FrequencyOfUnion = (one other union : List Posting) → IsList one → IsList other → IsUnion one other union → (d t : ℕ)
+    → frequency d t union ≡ frequency d t (one ++ other)
 
 -- The lists of a frequency over two intervals that touch, joined: whatever is coalesced and has the rows of their
 -- union is the list over both.

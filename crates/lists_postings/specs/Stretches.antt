@@ -27,4 +27,5 @@ pub record IsLongest {R V : Type 0} (k : Kind R V) (f : ℕ → ℕ → Option V
 pub record AreStretches {R V : Type 0} (k : Kind R V) (f : ℕ → ℕ → Option V) (a b : ℕ) (rows : List R) : Type 0 where
   pub ordered : EachNext (Before k) rows
   pub longest : (r : R) → Contains rows r → IsLongest k f a b r
-  pub covered : (d t : ℕ) (v : V) → a ≤ t → t < b → f d t ≡ Some v → (r : R) × Contains rows r × (k.doc r ≡ d) × (k.from r ≤ t) × (t < k.to r)
+  pub covered : (d t : ℕ) (v : V) → a ≤ t → t < b → f d t ≡ Some v → (r : R) × Contains rows r × (k.doc r ≡ d) × (k.from r ≤ t)
+      × (t < k.to r)

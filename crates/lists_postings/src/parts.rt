@@ -29,7 +29,7 @@ pub fn overlap(
     ensures ordered { IfOk result (λ v. IsList list.now → IsList v.items) }
 {
     list.iter()
-        .filter(|p| p.span.from < to && from < p.span.to)
+        .filter(|p| p.span.meets(from, to))
         .copied()
         .collect(alloc)
 }

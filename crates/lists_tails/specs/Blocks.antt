@@ -36,7 +36,9 @@ pub record IsSetIn (doc : ℕ) (front block back : List Posting) : Type 0 where
 
 -- A block is passed on by a turn: so are all blocks with it, where the document turns in this one.
 abbrev pub IsTurnedWithin : ℕ → ℕ → ℕ → ℕ → List Posting → List Posting → Type 0
-IsTurnedWithin doc at old new before after = (front back : List Posting) → (IsList (front ++ (before ++ back)) → IsSetIn doc front before back) → IsTurned doc at old new (front ++ (before ++ back)) (front ++ (after ++ back))
+IsTurnedWithin doc at old new before after = (front back : List Posting)
+    → (IsList (front ++ (before ++ back)) → IsSetIn doc front before back)
+    → IsTurned doc at old new (front ++ (before ++ back)) (front ++ (after ++ back))
 
 -- The block has a posting, and room for one more.
 pub record IsRoomy (block : Vec Posting Global) : Type 0 where
@@ -72,7 +74,8 @@ room_in first later spare = first_room first later + spare_room later spare
 
 -- What a turn to the frequency new leaves: each block has a posting, the list is longer by one posting at most, and at
 -- most one posting fewer fits in; where the word ends there, no more and no fewer.
-pub record LeavesBlocks (new : ℕ) (first : Vec Posting Global) (later : Vec (Vec Posting Global) Global) (spare : Vec Posting Global) (first' : Vec Posting Global) (later' : Vec (Vec Posting Global) Global) (spare' : Vec Posting Global) : Type 0 where
+pub record LeavesBlocks (new : ℕ) (first : Vec Posting Global) (later : Vec (Vec Posting Global) Global) (spare : Vec Posting Global)
+    (first' : Vec Posting Global) (later' : Vec (Vec Posting Global) Global) (spare' : Vec Posting Global) : Type 0 where
   pub filled : AreFilled later'.items
   pub longer : length (first'.items ++ joined later'.items) ≤ length (first.items ++ joined later.items) + 1
   pub room : room_in first later spare ≤ room_in first' later' spare' + 1

@@ -10,7 +10,8 @@ TailsOfActs = (acts : List Act) (tails : ℕ → List Posting) → AreInOrder ac
 
 -- The frequency that the turns define is what the document's last turn up to the time gave the word.
 abbrev pub FrequencyOfLastTurn : Type 0
-FrequencyOfLastTurn = (later earlier : List Act) (doc at t w : ℕ) (new : ℕ → ℕ) → at ≤ t → All (IsNoTurn doc t) later → frequency_after (later ++ Turns doc at new ∷ earlier) w doc t ≡ new w
+FrequencyOfLastTurn = (later earlier : List Act) (doc at t w : ℕ) (new : ℕ → ℕ) → at ≤ t → All (IsNoTurn doc t) later
+    → frequency_after (later ++ Turns doc at new ∷ earlier) w doc t ≡ new w
 
 -- It is 0 before the document's first turn.
 abbrev pub FrequencyOfNoTurn : Type 0

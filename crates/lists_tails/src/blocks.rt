@@ -140,8 +140,10 @@ pub(crate) fn roomy_first(
     ensures inside { result ≤ 1 }
     ensures there { result ≤ vec_len later.new }
     ensures roomy { result ≡ 0 → vec_len first.new < vec_capacity first.new }
-    ensures roomy_later { (d : Vec Row Heap) → result ≡ 1 → vec_len (get_or later.new.items 0 d) < vec_capacity (get_or later.new.items 0 d) }
-    ensures kept { vec_len first.old < vec_capacity first.old → (first.new ≡ first.old) × (later.new ≡ later.old) × (spare.new ≡ spare.old) × (result ≡ 0) }
+    ensures roomy_later { (d : Vec Row Heap) → result ≡ 1
+        → vec_len (get_or later.new.items 0 d) < vec_capacity (get_or later.new.items 0 d) }
+    ensures kept { vec_len first.old < vec_capacity first.old → (first.new ≡ first.old) × (later.new ≡ later.old) × (spare.new ≡ spare.old)
+        × (result ≡ 0) }
 {
     if first.len() < first.capacity() {
         return 0;
@@ -193,7 +195,8 @@ pub(crate) fn roomy_later(
 pub(crate) fn drop_empty(later: &mut Vec<Vec<Posting>>, place: usize)
     requires inside { place < vec_len later.old }
     ensures same { joined later.new.items ≡ joined later.old.items }
-    ensures filled { ((k : ℕ) (d : Vec Row Heap) → k < length later.old.items → k ≢ place → 0 < length (get_or later.old.items k d).items) → AreFilled later.new.items }
+    ensures filled { ((k : ℕ) (d : Vec Row Heap) → k < length later.old.items → k ≢ place → 0 < length (get_or later.old.items k d).items)
+        → AreFilled later.new.items }
     ensures len { vec_len later.new ≤ vec_len later.old }
     ensures capacity { vec_capacity later.new ≡ vec_capacity later.old }
 {

@@ -55,7 +55,8 @@ fn sort_by_doc(turns: &mut Vec<Turn>) -> Result<(), AllocError>
 fn open_before(turns: &[Turn], i: usize) -> &[Weight]
     requires inside { i < length turns.now }
     ensures ascending { All (λ x. AreWeights x.weights.items) turns.now → AreWeights result.now }
-    ensures open { (d : Turn) → IsNonDecreasingBy (λ x. x.doc.0) turns.now → (w : ℕ) → weight_of w result.now ≡ open_after (acts_of (take i turns.now)) w (slice_index_or turns.now i d).doc.0 }
+    ensures open { (d : Turn) → IsNonDecreasingBy (λ x. x.doc.0) turns.now → (w : ℕ)
+        → weight_of w result.now ≡ open_after (acts_of (take i turns.now)) w (slice_index_or turns.now i d).doc.0 }
 {
     if i == 0 {
         return &[];

@@ -56,7 +56,7 @@ fn push_in(rows: &mut Vec<Posting>, list: &[Posting], span: Span) -> Result<(), 
 {
     rows.extend(
         list.iter()
-            .filter(|p| p.span.from < span.to && span.from < p.span.to)
+            .filter(|p| p.span.meets(span.from, span.to))
             .copied(),
     )
 }

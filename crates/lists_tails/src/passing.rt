@@ -13,7 +13,8 @@ pub(crate) fn first_word(one: &[Weight], other: &[Weight]) -> Option<WordId>
     ensures none { IsNone result → (one.now ≡ []) × (other.now ≡ []) }
     ensures one { IfSome result (λ w. AreFrom w.number one.now) }
     ensures other { IfSome result (λ w. AreFrom w.number other.now) }
-    ensures there { IfSome result (λ w. length (behind w.number one.now) + length (behind w.number other.now) < length one.now + length other.now) }
+    ensures there { IfSome result
+        (λ w. length (behind w.number one.now) + length (behind w.number other.now) < length one.now + length other.now) }
 {
     match (one.first(), other.first()) {
         (Some(x), Some(y)) => Some(x.word.min(y.word)),

@@ -97,7 +97,8 @@ impl Tails {
         requires old { AreWeights old.now }
         requires new { AreWeights new.now }
         requires room_for_new { HaveRoom new.now self.old }
-        ensures turned { (w : ℕ) → IsTurned doc.0 at.seconds (weight_of w old.now) (weight_of w new.now) (tail_of self.old w) (tail_of self.new w) }
+        ensures turned { (w : ℕ)
+            → IsTurned doc.0 at.seconds (weight_of w old.now) (weight_of w new.now) (tail_of self.old w) (tail_of self.new w) }
         ensures longer { (w : ℕ) → length (tail_of self.new w) ≤ length (tail_of self.old w) + 1 }
         ensures others { (w : ℕ) → weight_of w old.now ≡ weight_of w new.now → held_of self.new w ≡ held_of self.old w }
         ensures shorter { (w : ℕ) → weight_of w new.now ≡ 0 → length (tail_of self.new w) ≤ length (tail_of self.old w) }

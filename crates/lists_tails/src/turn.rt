@@ -149,7 +149,8 @@ pub(crate) fn turn_blocks(
     requires differ { old ≢ new }
     requires room { new ≢ 0 → 1 ≤ room_in first.old later.old spare.old }
     requires filled { AreFilled later.old.items }
-    ensures turned { IsTurned doc.0 at.seconds old new (first.old.items ++ joined later.old.items) (first.new.items ++ joined later.new.items) }
+    ensures turned { IsTurned doc.0 at.seconds old new (first.old.items ++ joined later.old.items)
+        (first.new.items ++ joined later.new.items) }
     ensures leaves { LeavesBlocks new first.old later.old spare.old first.new later.new spare.new }
 {
     let started = count_started(later.as_slice(), doc);
@@ -183,7 +184,8 @@ fn turn_started(
     requires inside { place < vec_len later.old }
     requires room { new ≢ 0 → 1 ≤ spare_room later.old spare.old }
     requires filled { AreFilled later.old.items }
-    ensures turned { (front : List Row) → (IsList (front ++ joined later.old.items) → IsBlockOf doc.0 later.old.items (place + 1)) → IsTurned doc.0 at.seconds old new (front ++ joined later.old.items) (front ++ joined later.new.items) }
+    ensures turned { (front : List Row) → (IsList (front ++ joined later.old.items) → IsBlockOf doc.0 later.old.items (place + 1))
+        → IsTurned doc.0 at.seconds old new (front ++ joined later.old.items) (front ++ joined later.new.items) }
     ensures filled { AreFilled later.new.items }
     ensures longer { length (joined later.new.items) ≤ length (joined later.old.items) + 1 }
     ensures shorter { new ≡ 0 → length (joined later.new.items) ≤ length (joined later.old.items) }
@@ -204,9 +206,11 @@ fn turn_started(
 fn turn_later(later: &mut Vec<Vec<Posting>>, place: usize, doc: DocId, at: Time, old: u32, new: u32)
     requires differ { old ≢ new }
     requires inside { place < vec_len later.old }
-    requires roomy { new ≢ 0 → (d : Vec Row Heap) → vec_len (get_or later.old.items place d) < vec_capacity (get_or later.old.items place d) }
+    requires roomy { new ≢ 0 → (d : Vec Row Heap)
+        → vec_len (get_or later.old.items place d) < vec_capacity (get_or later.old.items place d) }
     requires filled { AreFilled later.old.items }
-    ensures turned { (front : List Row) → (IsList (front ++ joined later.old.items) → IsBlockOf doc.0 later.old.items (place + 1)) → IsTurned doc.0 at.seconds old new (front ++ joined later.old.items) (front ++ joined later.new.items) }
+    ensures turned { (front : List Row) → (IsList (front ++ joined later.old.items) → IsBlockOf doc.0 later.old.items (place + 1))
+        → IsTurned doc.0 at.seconds old new (front ++ joined later.old.items) (front ++ joined later.new.items) }
     ensures filled { AreFilled later.new.items }
     ensures longer { length (joined later.new.items) ≤ length (joined later.old.items) + 1 }
     ensures shorter { new ≡ 0 → length (joined later.new.items) ≤ length (joined later.old.items) }

@@ -34,7 +34,8 @@ pub record IsLinked (log : List (Change TextPlace)) (i : ℕ) (doc : DocId) (lin
 pub record AreLinked (log : List (Change TextPlace)) (links : List Link) : Type 0 where
   pub ascending : IsNonDecreasingBy (λ c. c.at.seconds) log
   pub as_many : length links ≡ length log
-  pub linked : (i : ℕ) (c : Change TextPlace) (link : Link) → slice_get log i ≡ Some c → slice_get links i ≡ Some link → IsLinked log i c.doc link
+  pub linked : (i : ℕ) (c : Change TextPlace) (link : Link) → slice_get log i ≡ Some c → slice_get links i ≡ Some link
+      → IsLinked log i c.doc link
 
 -- the map leads to each document's latest change, says when it was alive last, and has each document once
 pub record IsIndexed (log : List (Change TextPlace)) (links : List Link) (latest : LastLives) : Type 0 where

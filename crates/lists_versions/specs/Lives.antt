@@ -21,7 +21,8 @@ AreLives changes a b lives = AreStretches life_kind (lived changes) a b lives
 
 -- There is one list of lives.
 abbrev pub LivesAreOne : Type 0 → Type 0
-LivesAreOne A = (changes : List (Change A)) (a b : ℕ) (one other : List Life) → AreLives changes a b one → AreLives changes a b other → one ≡ other
+LivesAreOne A = (changes : List (Change A)) (a b : ℕ) (one other : List Life) → AreLives changes a b one → AreLives changes a b other
+    → one ≡ other
 
 -- the event of a document at a time, and of a change
 abbrev pub start_of : Time → DocId → Event
@@ -34,7 +35,8 @@ event_of c = record { doc = c.doc; at = c.at }
 pub record AreEvents {A : Type 0} (changes : List (Change A)) (docs : List DocId) (a b : ℕ) (events : List Event) : Type 0 where
   pub inside : (x : Event) → Contains events x → (a ≤ x.at.seconds) × (x.at.seconds < b)
   pub started : (doc : DocId) → Contains docs doc → (x : Event) × Contains events x × (x.doc ≡ doc) × (x.at.seconds ≡ a)
-  pub changed : (c : Change A) → Contains changes c → a < c.at.seconds → c.at.seconds < b → (x : Event) × Contains events x × (x.doc ≡ c.doc) × (x.at.seconds ≡ c.at.seconds)
+  pub changed : (c : Change A) → Contains changes c → a < c.at.seconds → c.at.seconds < b
+      → (x : Event) × Contains events x × (x.doc ≡ c.doc) × (x.at.seconds ≡ c.at.seconds)
 
 -- what is said of these documents alone
 abbrev pub lived_of : {A : Type 0} → List DocId → List (Change A) → ℕ → ℕ → Option (Unit {0})
@@ -45,10 +47,12 @@ pub record AreNoted {A : Type 0} (changes : List (Change A)) (doc : DocId) (a b 
   pub kept : (x : Event) → Contains old x → Contains new x
   pub only : (x : Event) → Contains new x → Contains old x ⊎ ((x.doc ≡ doc) × (a ≤ x.at.seconds) × (x.at.seconds < b))
   pub started : (x : Event) × Contains new x × (x.doc ≡ doc) × (x.at.seconds ≡ a)
-  pub changed : (c : Change A) → Contains changes c → c.doc ≡ doc → a < c.at.seconds → c.at.seconds < b → (x : Event) × Contains new x × (x.doc ≡ doc) × (x.at.seconds ≡ c.at.seconds)
+  pub changed : (c : Change A) → Contains changes c → c.doc ≡ doc → a < c.at.seconds → c.at.seconds < b
+      → (x : Event) × Contains new x × (x.doc ≡ doc) × (x.at.seconds ≡ c.at.seconds)
 
 -- events of these documents inside [a, b)
 pub record AreEventsOf {A : Type 0} (changes : List (Change A)) (docs : List DocId) (a b : ℕ) (events : List Event) : Type 0 where
   pub inside : (x : Event) → Contains events x → Contains docs x.doc × (a ≤ x.at.seconds) × (x.at.seconds < b)
   pub started : (doc : DocId) → Contains docs doc → (x : Event) × Contains events x × (x.doc ≡ doc) × (x.at.seconds ≡ a)
-  pub changed : (c : Change A) → Contains changes c → Contains docs c.doc → a < c.at.seconds → c.at.seconds < b → (x : Event) × Contains events x × (x.doc ≡ c.doc) × (x.at.seconds ≡ c.at.seconds)
+  pub changed : (c : Change A) → Contains changes c → Contains docs c.doc → a < c.at.seconds → c.at.seconds < b
+      → (x : Event) × Contains events x × (x.doc ≡ c.doc) × (x.at.seconds ≡ c.at.seconds)

@@ -24,7 +24,8 @@ no_document doc changes = when (is_none (option_and_then (λ c. c.held) (latest 
 
 -- the document is new, and there are as many as there may be
 abbrev pub full_documents : {A : Type 0} → DocId → List (Change A) → Option VersionRefusal
-full_documents doc changes = when (is_none (latest doc changes) && nat_le (limit_of Documents) (length (documents changes))) (Full Documents (limit_of Documents))
+full_documents doc changes = when (is_none (latest doc changes) && nat_le (limit_of Documents) (length (documents changes)))
+    (Full Documents (limit_of Documents))
 
 -- there are as many versions and tombstones as there may be
 abbrev pub full_versions : {A : Type 0} → List (Change A) → Option VersionRefusal
@@ -32,11 +33,13 @@ full_versions changes = when (nat_le (limit_of Versions) (length changes)) (Full
 
 -- why an arrival isn't allowed after these changes: the first cause in order
 abbrev pub arrive_refusal : {A : Type 0} → DocId → Time → List (Change A) → Option VersionRefusal
-arrive_refusal doc at changes = first_of (time_back at changes ∷ same_time doc at changes ∷ full_documents doc changes ∷ full_versions changes ∷ [])
+arrive_refusal doc at changes = first_of (time_back at changes ∷ same_time doc at changes ∷ full_documents doc changes
+    ∷ full_versions changes ∷ [])
 
 -- why a deletion isn't allowed after these changes: the first cause in order
 abbrev pub delete_refusal : {A : Type 0} → DocId → Time → List (Change A) → Option VersionRefusal
-delete_refusal doc at changes = first_of (time_back at changes ∷ no_document doc changes ∷ same_time doc at changes ∷ full_versions changes ∷ [])
+delete_refusal doc at changes = first_of (time_back at changes ∷ no_document doc changes ∷ same_time doc at changes ∷ full_versions changes
+    ∷ [])
 
 -- why a change isn't allowed after these: an arrival, of whose text something is held, or a deletion
 abbrev pub refusal_by : {A B : Type 0} → Option A → DocId → Time → List (Change B) → Option VersionRefusal

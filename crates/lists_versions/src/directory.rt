@@ -240,9 +240,11 @@ impl Directory {
     ) -> Result<(), AllocError>
         requires { start.seconds ≡ span.from }
         ensures kept { OnOk result ((x : _) → Contains events.old.items x → Contains events.new.items x) }
-        ensures only { OnOk result ((x : _) → Contains events.new.items x → Contains events.old.items x ⊎ ((x.doc ≡ doc) × (span.from ≤ x.at.seconds) × (x.at.seconds < span.to))) }
+        ensures only { OnOk result ((x : _) → Contains events.new.items x → Contains events.old.items x
+            ⊎ ((x.doc ≡ doc) × (span.from ≤ x.at.seconds) × (x.at.seconds < span.to))) }
         ensures started { OnOk result ((x : EventValue) × Contains events.new.items x × (x.doc ≡ doc) × (x.at.seconds ≡ span.from)) }
-        ensures changed { OnOk result ((c : _) → Contains self.now.changes c → c.doc ≡ doc → span.from < c.at.seconds → c.at.seconds < span.to
+        ensures changed { OnOk result ((c : _) → Contains self.now.changes c → c.doc ≡ doc → span.from < c.at.seconds
+            → c.at.seconds < span.to
             → (x : EventValue) × Contains events.new.items x × (x.doc ≡ doc) × (x.at.seconds ≡ c.at.seconds)) }
     {
         events.push(Event { doc, at: start })?;

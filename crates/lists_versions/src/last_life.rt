@@ -30,7 +30,8 @@ impl LastLife {
         change: &Change<TextPlace>,
     ) -> LastLife
         ensures place { result.place ≡ place }
-        ensures lasts { (log : _) → IsNonDecreasingBy (λ c. c.at.seconds) (log ++ change.now ∷ []) → IfSome before (IsLastLife change.now.doc log)
+        ensures lasts { (log : _) → IsNonDecreasingBy (λ c. c.at.seconds) (log ++ change.now ∷ [])
+            → IfSome before (IsLastLife change.now.doc log)
             → IsLastLife change.now.doc (log ++ change.now ∷ []) result }
     {
         let since = match before {

@@ -172,8 +172,10 @@ pub(crate) fn note_changes(
     requires there { latest < length log.now }
     requires of { IsOf doc log.now latest }
     ensures kept { OnOk result ((x : _) → Contains events.old.items x → Contains events.new.items x) }
-    ensures only { OnOk result ((x : _) → Contains events.new.items x → Contains events.old.items x ⊎ ((x.doc ≡ doc) × (span.from ≤ x.at.seconds) × (x.at.seconds < span.to))) }
-    ensures changed { OnOk result ((c : _) → Contains (take (latest + 1) log.now) c → c.doc ≡ doc → span.from < c.at.seconds → c.at.seconds < span.to
+    ensures only { OnOk result ((x : _) → Contains events.new.items x → Contains events.old.items x
+        ⊎ ((x.doc ≡ doc) × (span.from ≤ x.at.seconds) × (x.at.seconds < span.to))) }
+    ensures changed { OnOk result ((c : _) → Contains (take (latest + 1) log.now) c → c.doc ≡ doc → span.from < c.at.seconds
+        → c.at.seconds < span.to
         → (x : EventValue) × Contains events.new.items x × (x.doc ≡ doc) × (x.at.seconds ≡ c.at.seconds)) }
 {
     let mut place = latest;

@@ -57,8 +57,10 @@ pub(crate) fn last_until(
     requires linked { AreLinked log.now links.now }
     requires there { latest < length log.now }
     ensures until { IfSome result (λ i. (i < length log.now) × ((d : _) → (get_or log.now i d).at.seconds ≤ t.seconds)) }
-    ensures reached { (doc : Document) → IsOf doc log.now latest → MatchOption result (AreBehind doc t.seconds log.now latest) (IsReached doc t.seconds log.now latest) }
-    ensures leads { (doc : Document) → Leads doc t.seconds log.now latest → MatchOption result (None ≡ held_at doc t.seconds log.now) (Leads doc t.seconds log.now) }
+    ensures reached { (doc : Document) → IsOf doc log.now latest
+        → MatchOption result (AreBehind doc t.seconds log.now latest) (IsReached doc t.seconds log.now latest) }
+    ensures leads { (doc : Document) → Leads doc t.seconds log.now latest
+        → MatchOption result (None ≡ held_at doc t.seconds log.now) (Leads doc t.seconds log.now) }
 {
     let mut place = latest;
     while t.seconds < log[place].at.seconds {
@@ -81,7 +83,8 @@ fn step_back(log: &[Change<TextPlace>], links: &[Link], place: usize, t: Time) -
         MatchOption result
         (None ≡ held_at doc t.seconds log.now)
         (Leads doc t.seconds log.now) }
-    ensures reaches { (doc : Document) → IsOf doc log.now place → MatchOption result (AreBehind doc t.seconds log.now place) (IsReached doc t.seconds log.now place) }
+    ensures reaches { (doc : Document) → IsOf doc log.now place
+        → MatchOption result (AreBehind doc t.seconds log.now place) (IsReached doc t.seconds log.now place) }
 {
     let link = links[place];
     let Some(before) = link.before else {

@@ -11,13 +11,23 @@ pub OnlySource-same : (x : FilesState) → OnlySource x x
 OnlySource-same x = record { sink = refl; disk = refl; lost = refl; faults = omega arith }
 
 pub OnlySource-joins : (x y z : FilesState) → OnlySource x y → OnlySource y z → OnlySource x z
-OnlySource-joins x y z one two = record { sink = two.sink ∙ one.sink; disk = two.disk ∙ one.disk; lost = two.lost ∙ one.lost; faults = omega (arith, one.faults, two.faults) }
+OnlySource-joins x y z one two = record {
+  sink = two.sink ∙ one.sink;
+  disk = two.disk ∙ one.disk;
+  lost = two.lost ∙ one.lost;
+  faults = omega (arith, one.faults, two.faults);
+}
 
 pub OnlySink-same : (x : FilesState) → OnlySink x x
 OnlySink-same x = record { source = refl; disk = refl; lost = refl; faults = omega arith }
 
 pub OnlySink-joins : (x y z : FilesState) → OnlySink x y → OnlySink y z → OnlySink x z
-OnlySink-joins x y z one two = record { source = two.source ∙ one.source; disk = two.disk ∙ one.disk; lost = two.lost ∙ one.lost; faults = omega (arith, one.faults, two.faults) }
+OnlySink-joins x y z one two = record {
+  source = two.source ∙ one.source;
+  disk = two.disk ∙ one.disk;
+  lost = two.lost ∙ one.lost;
+  faults = omega (arith, one.faults, two.faults);
+}
 
 pub OnlyDisk-same : (x : FilesState) → OnlyDisk x x
 OnlyDisk-same x = record { source = refl; sink = refl; faults = omega arith; journal = omega arith; pages = omega arith; lost = λ was. was }
@@ -38,4 +48,5 @@ OnlyDisk-reach x y Pages one = one.pages
 
 -- a disk that is the same is the same beside what is shown
 pub IsSameBeside-same : (old new : DiskState) → new ≡ old → IsSameBeside old new
-IsSameBeside-same old new same = let P : DiskState → Type 0 = λ d. IsSameBeside old d in subst P (sym same) (record { same = refl; stable = refl; pending = refl })
+IsSameBeside-same old new same = let P : DiskState
+    → Type 0 = λ d. IsSameBeside old d in subst P (sym same) (record { same = refl; stable = refl; pending = refl })

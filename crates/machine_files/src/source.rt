@@ -21,7 +21,8 @@ impl<F: FileExt + Seek + OpenFile, I: Read, O: Write> Source for FileMachine<F, 
 
     ghost pulled = { λ x lefts y. ArePulls (λ m. m.source.left) OnlySource (meaning x) lefts (meaning y) };
 
-    ghost laws = { source_laws meaning (λ m. m.source) OnlySource OnlySource-same OnlySource-joins (λ x y one. one.faults) (λ x. x.source_faults.limit) };
+    ghost laws = { source_laws meaning (λ m. m.source) OnlySource OnlySource-same OnlySource-joins (λ x y one. one.faults)
+        (λ x. x.source_faults.limit) };
 
     fn pull(&mut self, buf: &mut [u8]) -> Result<usize, Failed> {
         match read_once(&mut self.input, buf) {

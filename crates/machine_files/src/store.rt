@@ -159,7 +159,8 @@ impl<F: FileExt + Seek + OpenFile> Store<F> {
     /// Writes bytes into an area from the place `at` on.
     pub(crate) fn write(&mut self, area: Area, at: u64, bytes: &[u8]) -> Result<(), Failed>
         requires { at + length bytes.now ≤ 2 ^ 40 }
-        ensures ok { OnOk result (lengths self.new ≡ replaced (lengths self.old) area (max (part (lengths self.old) area) (at + length bytes.now))) }
+        ensures ok { OnOk result
+            (lengths self.new ≡ replaced (lengths self.old) area (max (part (lengths self.old) area) (at + length bytes.now))) }
         ensures err { OnErr result (IsPartlyReached area (at + length bytes.now) (lengths self.old) (lengths self.new)) }
         ensures journal { self.old.journal.length ≤ self.new.journal.length }
         ensures pages { self.old.pages.length ≤ self.new.pages.length }

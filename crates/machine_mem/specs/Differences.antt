@@ -38,7 +38,10 @@ first_of image = record {
 abbrev pub with_write : Area → ℕ → List ℕ → ℕ → Holding → Holding
 with_write area at bytes landed x = record {
   snapshot = record {
-    moment = record x.snapshot.moment { pending = replaced x.snapshot.moment.pending area (record { at = at; count = length bytes } ∷ part x.snapshot.moment.pending area) };
+    moment = record x.snapshot.moment {
+      pending = replaced x.snapshot.moment.pending area
+          (record { at = at; count = length bytes } ∷ part x.snapshot.moment.pending area);
+    };
     last = replaced x.snapshot.last area (written at bytes (part x.snapshot.last area));
   };
   holds = replaced x.holds area (written at (take landed bytes) (part x.holds area));
@@ -53,7 +56,8 @@ played Sync x = record x {
     last = x.holds;
   };
 }
-played (Show piece) x = record x { snapshot = record x.snapshot { moment = record x.snapshot.moment { beside = x.snapshot.moment.beside ++ piece.items } } }
+played (Show piece) x = record
+    x { snapshot = record x.snapshot { moment = record x.snapshot.moment { beside = x.snapshot.moment.beside ++ piece.items } } }
 played Nothing x = x
 
 -- after all of these calls

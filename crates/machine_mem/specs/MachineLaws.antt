@@ -13,10 +13,24 @@ pub OnlySource-same : (x : MemoryState) → OnlySource x x
 OnlySource-same x = record { sink = refl; disk = refl; lost = refl; faults = omega arith }
 
 pub OnlySource-joins : (x y z : MemoryState) → OnlySource x y → OnlySource y z → OnlySource x z
-OnlySource-joins x y z one two = record { sink = two.sink ∙ one.sink; disk = two.disk ∙ one.disk; lost = two.lost ∙ one.lost; faults = omega (arith, one.faults, two.faults) }
+OnlySource-joins x y z one two = record {
+  sink = two.sink ∙ one.sink;
+  disk = two.disk ∙ one.disk;
+  lost = two.lost ∙ one.lost;
+  faults = omega (arith, one.faults, two.faults);
+}
 
 pub OnlyDisk-same : (x : MemoryState) → OnlyDisk x x
-OnlyDisk-same x = record { source = refl; sink = refl; faults = omega arith; reach = λ area. omega arith; read = λ area. omega arith; beside = refl; goes_on = goes_on_same x.disk; lost = λ was. was }
+OnlyDisk-same x = record {
+  source = refl;
+  sink = refl;
+  faults = omega arith;
+  reach = λ area. omega arith;
+  read = λ area. omega arith;
+  beside = refl;
+  goes_on = goes_on_same x.disk;
+  lost = λ was. was;
+}
 
 pub OnlyDisk-joins : (x y z : MemoryState) → OnlyDisk x y → OnlyDisk y z → OnlyDisk x z
 OnlyDisk-joins x y z one two = record {
@@ -41,7 +55,8 @@ OnlyShows-same d shown is =
     record {
       goes_on = goes_on_same d;
       grows = none;
-      since = left_now d (λ (image : Bytes) (beside : List ℕ). MayLeave d.now image × IsPrefix shown beside × IsPrefix beside shown) (λ image may. (may, beside.0, beside.1));
+      since = left_now d (λ (image : Bytes) (beside : List ℕ). MayLeave d.now image × IsPrefix shown beside × IsPrefix beside shown)
+          (λ image may. (may, beside.0, beside.1));
     }
 
 still_allowed : (a b : DiskState) → IsSameBeside a b → (image : Bytes) → MayLeave b.now image → MayLeave a.now image

@@ -69,7 +69,10 @@ wrote area at bytes landed x = record x {
     reach = replaced x.disk.reach area (max (part x.disk.reach area) (at + landed));
     holds = replaced x.disk.holds area (written at (take landed bytes) (part x.disk.holds area));
     past = x.disk.past ++ x.disk.now ∷ [];
-    now = record x.disk.now { pending = replaced x.disk.now.pending area (record { at = at; count = length bytes } ∷ part x.disk.now.pending area) };
+    now = record x.disk.now {
+      pending = replaced x.disk.now.pending area
+          (record { at = at; count = length bytes } ∷ part x.disk.now.pending area);
+    };
   };
   last = replaced x.last area (written at bytes (part x.last area));
 }

@@ -34,9 +34,17 @@ abbrev pub sink_state : MemMachine → SinkState
 sink_state x = record { shown = (snapshot_of x).moment.beside; faults = x.sink_faults.value }
 
 abbrev pub disk_state : MemMachine → DiskState
-disk_state x = disk_from (moments_of (first_of x.history.first) x.history.differences.items) (holding_of x.history.current) x.disk_faults.value
+disk_state x = disk_from (moments_of (first_of x.history.first) x.history.differences.items)
+    (holding_of x.history.current) x.disk_faults.value
     (record { journal = sum x.read_journal.parts.items; pages = sum x.read_pages.parts.items })
 
 -- all of these, with the bytes as last written, the limit of a pull, and whether a sync has failed
 abbrev pub meaning : MemMachine → MemoryState
-meaning x = record { source = source_state x; sink = sink_state x; disk = disk_state x; last = (snapshot_of x).last; pull_limit = x.input.limit; has_lost = x.has_lost }
+meaning x = record {
+  source = source_state x;
+  sink = sink_state x;
+  disk = disk_state x;
+  last = (snapshot_of x).last;
+  pull_limit = x.input.limit;
+  has_lost = x.has_lost;
+}

@@ -46,7 +46,10 @@ impl Disk for MemMachine {
 
     ghost holds_allowed = { λ x tells. elim [ Journal ↦ x.history.current.journal.allowed | Pages ↦ x.history.current.pages.allowed ] };
 
-    ghost stable_bytes = { λ x. elim [ Journal ↦ λ tells. x.history.current.journal.remains.sound.bytes | Pages ↦ λ tells. x.history.current.pages.remains.sound.bytes ] };
+    ghost stable_bytes = { λ x. elim [
+      | Journal ↦ λ tells. x.history.current.journal.remains.sound.bytes
+      | Pages ↦ λ tells. x.history.current.pages.remains.sound.bytes
+    ] };
 
     fn length(&mut self, area: Area) -> Result<u64, Failed>
         ensures only { OnlyDisk (meaning self.old) (meaning self.new) }
@@ -72,13 +75,19 @@ impl Disk for MemMachine {
         ensures only { OnlyDisk (meaning self.old) (meaning self.new) }
         ensures cause { HasCause (disk_state self.old).faults (disk_state self.new).faults result }
         ensures bytes { OnOk result (buf.new ≡ take (length buf.old) (drop at (part (disk_state self.old).holds area))) }
-        ensures count { OnOk result ((disk_state self.new).bytes_read ≡ replaced (disk_state self.old).bytes_read area (part (disk_state self.old).bytes_read area + length buf.old)) }
+        ensures count { OnOk result
+            ((disk_state self.new).bytes_read ≡ replaced (disk_state self.old).bytes_read area
+            (part (disk_state self.old).bytes_read area + length buf.old)) }
         ensures failed { OnErr result ((disk_state self.new).bytes_read ≡ (disk_state self.old).bytes_read) }
-        ensures same { disk_state self.new ≡ record (disk_state self.old) { faults = (disk_state self.new).faults; bytes_read = (disk_state self.new).bytes_read } }
+        ensures same { disk_state self.new ≡ record (disk_state self.old) {
+          faults = (disk_state self.new).faults;
+          bytes_read = (disk_state self.new).bytes_read;
+        } }
 
         // exactly
         ensures done { OnOk result (Serves (did_read area (length buf.old)) self.old self.new) }
-        ensures why { OnErr result ((((landed : ℕ) × IsDue self.old CallKind.Read landed) × Serves failed_disk self.old self.new) ⊎ Starves failed_disk self.old self.new) }
+        ensures why { OnErr result ((((landed : ℕ) × IsDue self.old CallKind.Read landed) × Serves failed_disk self.old self.new)
+            ⊎ Starves failed_disk self.old self.new) }
         ensures named { (landed : ℕ) → IsDue self.old CallKind.Read landed → IsErr result }
         ensures counted { script_of self.new ≡ called CallKind.Read (script_of self.old) }
         ensures stays { Stays self.old self.new }
@@ -103,16 +112,26 @@ impl Disk for MemMachine {
         requires { at + length bytes.now ≤ 2 ^ 40 }
         ensures only { OnlyDisk (meaning self.old) (meaning self.new) }
         ensures cause { HasCause (disk_state self.old).faults (disk_state self.new).faults result }
-        ensures reach { OnOk result ((disk_state self.new).reach ≡ replaced (disk_state self.old).reach area (max (part (disk_state self.old).reach area) (at + length bytes.now))) }
-        ensures between { OnErr result (IsPartlyReached area (at + length bytes.now) (disk_state self.old).reach (disk_state self.new).reach) }
+        ensures reach { OnOk result
+            ((disk_state self.new).reach ≡ replaced (disk_state self.old).reach area
+            (max (part (disk_state self.old).reach area) (at + length bytes.now))) }
+        ensures between { OnErr result
+            (IsPartlyReached area (at + length bytes.now) (disk_state self.old).reach (disk_state self.new).reach) }
         ensures images { Writes area at (length bytes.now) (disk_state self.old) (disk_state self.new) }
-        ensures tried { OnOk result ((disk_state self.new).now.pending ≡ replaced (disk_state self.old).now.pending area (record { at = at; count = length bytes.now } ∷ part (disk_state self.old).now.pending area)) }
-        ensures holds { OnOk result ((disk_state self.new).holds ≡ replaced (disk_state self.old).holds area (written at bytes.now (part (disk_state self.old).holds area))) }
+        ensures tried { OnOk result
+            ((disk_state self.new).now.pending ≡ replaced (disk_state self.old).now.pending area
+            (record { at = at; count = length bytes.now } ∷ part (disk_state self.old).now.pending area)) }
+        ensures holds { OnOk result
+            ((disk_state self.new).holds ≡ replaced (disk_state self.old).holds area
+            (written at bytes.now (part (disk_state self.old).holds area))) }
         ensures read { (disk_state self.new).bytes_read ≡ (disk_state self.old).bytes_read }
 
         // exactly; of a write that a fault names, the first bytes come through
         ensures done { OnOk result (Serves (wrote area at bytes.now (length bytes.now)) self.old self.new) }
-        ensures why { OnErr result (((landed : ℕ) × IsDue self.old CallKind.Write landed × Serves (λ x. failed_disk (wrote area at bytes.now (min landed (length bytes.now)) x)) self.old self.new) ⊎ Starves failed_disk self.old self.new) }
+        ensures why { OnErr result
+            (((landed : ℕ) × IsDue self.old CallKind.Write landed
+            × Serves (λ x. failed_disk (wrote area at bytes.now (min landed (length bytes.now)) x)) self.old self.new)
+            ⊎ Starves failed_disk self.old self.new) }
         ensures named { (landed : ℕ) → IsDue self.old CallKind.Write landed → IsErr result }
         ensures counted { script_of self.new ≡ called CallKind.Write (script_of self.old) }
         ensures remembers { Remembers self.old self.new }
@@ -151,7 +170,8 @@ impl Disk for MemMachine {
 
         // exactly; behind a sync that failed each is recorded as one that a fault names
         ensures done { OnOk result (Serves synced self.old self.new) }
-        ensures why { OnErr result (((((landed : ℕ) × IsDue self.old CallKind.Sync landed) ⊎ ((meaning self.old).has_lost ≡ true)) × Serves (λ x. failed_sync (passed x)) self.old self.new) ⊎ Starves failed_sync self.old self.new) }
+        ensures why { OnErr result (((((landed : ℕ) × IsDue self.old CallKind.Sync landed) ⊎ ((meaning self.old).has_lost ≡ true))
+            × Serves (λ x. failed_sync (passed x)) self.old self.new) ⊎ Starves failed_sync self.old self.new) }
         ensures named { (landed : ℕ) → IsDue self.old CallKind.Sync landed → IsErr result }
         ensures counted { script_of self.new ≡ called CallKind.Sync (script_of self.old) }
         ensures remembers { Remembers self.old self.new }

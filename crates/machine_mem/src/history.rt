@@ -51,8 +51,13 @@ impl History {
     /// holds and of the bytes shown, of which the differences alone stay.
     pub fn record(&mut self, alloc: Global, difference: Difference) -> Result<(), AllocError>
         ensures current { OnOk result (holding_of self.new.current ≡ played difference (holding_of self.old.current)) }
-        ensures past { OnOk result (moments_of (first_of self.new.first) self.new.differences.items ≡ moments_of (first_of self.old.first) self.old.differences.items ++ along (holding_of self.old.current).snapshot.moment (piece_of difference)) }
-        ensures before { OnOk result ((n : ℕ) → n ≤ self.old.calls → snapshot_at n (first_of self.new.first) self.new.differences.items ≡ snapshot_at n (first_of self.old.first) self.old.differences.items) }
+        ensures past { OnOk result
+            (moments_of (first_of self.new.first) self.new.differences.items
+            ≡ moments_of (first_of self.old.first) self.old.differences.items
+            ++ along (holding_of self.old.current).snapshot.moment (piece_of difference)) }
+        ensures before { OnOk result ((n : ℕ) → n ≤ self.old.calls
+            → snapshot_at n (first_of self.new.first) self.new.differences.items
+            ≡ snapshot_at n (first_of self.old.first) self.old.differences.items) }
         ensures calls { OnOk result (self.new.calls ≡ self.old.calls + 1) }
         ensures same { OnErr result ((self.new.first ≡ self.old.first) × (self.new.current ≡ self.old.current)) }
         ensures err { OnErr result ((self.new.differences.items ≡ self.old.differences.items) × (self.new.calls ≡ self.old.calls)) }

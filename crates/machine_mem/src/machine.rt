@@ -264,7 +264,8 @@ impl Machine for MemMachine {
 
     ghost asked = { λ x pulls y. AreAsked (λ m. m.source) IsBefore OnlySource (meaning x) pulls (meaning y) };
 
-    ghost asked_laws = { asked_laws meaning (λ m. m.source) (λ m. m.sink) OnlySource (λ a b one. one.sink) OnlySink (λ a b one. one.source) OnlyDisk (λ a b one. one.source) };
+    ghost asked_laws = { asked_laws meaning (λ m. m.source) (λ m. m.sink) OnlySource (λ a b one. one.sink) OnlySink
+        (λ a b one. one.source) OnlyDisk (λ a b one. one.source) };
 
     ghost source_alone = { λ x y one. (one.sink, one.disk) };
 

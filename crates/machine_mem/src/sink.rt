@@ -38,7 +38,9 @@ impl Sink for MemMachine {
 
         // exactly; a piece is taken whole
         ensures done { IfOk result (λ n. (n ≡ length bytes.now) × Serves (showed bytes.now) self.old self.new) }
-        ensures why { OnErr result ((((landed : ℕ) × IsDue self.old CallKind.Push landed) × Serves (λ x. failed_sink (passed x)) self.old self.new) ⊎ Starves failed_sink self.old self.new) }
+        ensures why { OnErr result
+            ((((landed : ℕ) × IsDue self.old CallKind.Push landed) × Serves (λ x. failed_sink (passed x)) self.old self.new)
+            ⊎ Starves failed_sink self.old self.new) }
         ensures named { (landed : ℕ) → IsDue self.old CallKind.Push landed → IsErr result }
         ensures counted { script_of self.new ≡ called CallKind.Push (script_of self.old) }
         ensures remembers { Remembers self.old self.new }

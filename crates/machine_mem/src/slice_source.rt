@@ -32,7 +32,8 @@ impl<'a> Source for SliceSource<'a> {
 
     ghost pulled = { λ x lefts y. ArePulls (λ left. left) (λ s t. Unit {0}) (slice_state x).left lefts (slice_state y).left };
 
-    ghost laws = { source_laws (λ x. (slice_state x).left) (λ left. record { left = left; faults = 0 }) (λ s t. Unit {0}) (λ s. tt) (λ s t u one two. tt) (λ s t one. lit≤ tt) (λ x. lit≤ tt) };
+    ghost laws = { source_laws (λ x. (slice_state x).left) (λ left. record { left = left; faults = 0 }) (λ s t. Unit {0}) (λ s. tt)
+        (λ s t u one two. tt) (λ s t one. lit≤ tt) (λ x. lit≤ tt) };
 
     fn pull(&mut self, buf: &mut [u8]) -> Result<usize, Failed> {
         let count = fill(buf, self.left);

@@ -123,7 +123,8 @@ impl Store {
         requires fits { at + length bytes.now ≤ 2 ^ 40 }
         requires within { landed ≤ length bytes.now }
         ensures stable { IfOk result (λ s. s.remains.stable.items ≡ self.now.remains.stable.items) }
-        ensures pending { IfOk result (λ s. s.remains.pending.items ≡ record { at = at; count = length bytes.now } ∷ self.now.remains.pending.items) }
+        ensures pending { IfOk result (λ s. s.remains.pending.items ≡ record { at = at; count = length bytes.now }
+            ∷ self.now.remains.pending.items) }
         ensures written { IfOk result (λ s. s.remains.written.items ≡ written at bytes.now self.now.remains.written.items) }
         ensures held { IfOk result (λ s. s.held.items ≡ written at (take landed bytes.now) self.now.held.items) }
     {

@@ -14,4 +14,5 @@ ArePulls left only x (before ∷ lefts) y = (z : _) × (left x ≡ before) × on
 -- Calls of a machine, these pulls among them: between two pulls the source stays as it is.
 abbrev pub AreAsked : {S A : Type 0} → (S → A) → (S → Pull → Type 0) → (S → S → Type 0) → S → List Pull → S → Type 0
 AreAsked source before only x [] y = source y ≡ source x
-AreAsked source before only x (pull ∷ pulls) y = (w : _) × (z : _) × (source w ≡ source x) × before w pull × only w z × AreAsked source before only z pulls y
+AreAsked source before only x (pull ∷ pulls) y = (w : _) × (z : _) × (source w ≡ source x) × before w pull × only w z
+    × AreAsked source before only z pulls y

@@ -39,9 +39,14 @@ pub trait Disk {
         ensures only { only self.old self.new }
         ensures cause { HasCause (disk self.old).faults (disk self.new).faults result }
         ensures bytes { disk_tells → OnOk result (buf.new ≡ take (length buf.old) (drop at (part (disk self.old).holds area))) }
-        ensures count { disk_tells → OnOk result ((disk self.new).bytes_read ≡ replaced (disk self.old).bytes_read area (part (disk self.old).bytes_read area + length buf.old)) }
+        ensures count { disk_tells
+            → OnOk result ((disk self.new).bytes_read ≡ replaced (disk self.old).bytes_read area
+            (part (disk self.old).bytes_read area + length buf.old)) }
         ensures failed { disk_tells → OnErr result ((disk self.new).bytes_read ≡ (disk self.old).bytes_read) }
-        ensures same { disk self.new ≡ record (disk self.old) { faults = (disk self.new).faults; bytes_read = (disk self.new).bytes_read } };
+        ensures same { disk self.new ≡ record (disk self.old) {
+          faults = (disk self.new).faults;
+          bytes_read = (disk self.new).bytes_read;
+        } };
 
     /// Writes bytes into an area from the place `at` on; the area grows where they pass its end,
     /// and a gap reads as zeros. Until the next good sync a stop may leave any part of them.
@@ -49,11 +54,16 @@ pub trait Disk {
         requires { at + length bytes.now ≤ 2 ^ 40 }
         ensures only { only self.old self.new }
         ensures cause { HasCause (disk self.old).faults (disk self.new).faults result }
-        ensures reach { OnOk result ((disk self.new).reach ≡ replaced (disk self.old).reach area (max (part (disk self.old).reach area) (at + length bytes.now))) }
+        ensures reach { OnOk result
+            ((disk self.new).reach ≡ replaced (disk self.old).reach area (max (part (disk self.old).reach area) (at + length bytes.now))) }
         ensures between { OnErr result (IsPartlyReached area (at + length bytes.now) (disk self.old).reach (disk self.new).reach) }
         ensures images { disk_tells → Writes area at (length bytes.now) (disk self.old) (disk self.new) }
-        ensures tried { disk_tells → OnOk result ((disk self.new).now.pending ≡ replaced (disk self.old).now.pending area (record { at = at; count = length bytes.now } ∷ part (disk self.old).now.pending area)) }
-        ensures holds { disk_tells → OnOk result ((disk self.new).holds ≡ replaced (disk self.old).holds area (written at bytes.now (part (disk self.old).holds area))) }
+        ensures tried { disk_tells
+            → OnOk result ((disk self.new).now.pending ≡ replaced (disk self.old).now.pending area
+            (record { at = at; count = length bytes.now } ∷ part (disk self.old).now.pending area)) }
+        ensures holds { disk_tells
+            → OnOk result ((disk self.new).holds ≡ replaced (disk self.old).holds area
+            (written at bytes.now (part (disk self.old).holds area))) }
         ensures read { disk_tells → (disk self.new).bytes_read ≡ (disk self.old).bytes_read };
 
     /// Makes both areas durable: after `Ok` the only image is what reads give.

@@ -27,9 +27,11 @@ pub trait Machine: Source + Sink + Disk {
     // beside the images stand the bytes shown
     ghost beside_shown: { (x : Self) → Self.sink_tells → Self.disk_tells → (Self.disk x).now.beside ≡ (Self.sink x).shown };
     // any pushes
-    ghost shows: { (x y : Self) → Self.sink_tells → Self.disk_tells → Self.Sink.only x y → OnlyShows (Self.disk x) (Self.disk y) (Self.sink x).shown (Self.sink y).shown };
+    ghost shows: { (x y : Self) → Self.sink_tells → Self.disk_tells → Self.Sink.only x y
+        → OnlyShows (Self.disk x) (Self.disk y) (Self.sink x).shown (Self.sink y).shown };
     // one push, exactly
-    ghost shows_piece: { (x y : Self) (piece : List ℕ) (answer : Result ℕ Failed) → Self.sink_tells → Self.disk_tells → Self.pushed x piece answer y → IsShownByPiece (Self.sink x).shown piece (taken answer) (Self.disk x) (Self.disk y) };
+    ghost shows_piece: { (x y : Self) (piece : List ℕ) (answer : Result ℕ Failed) → Self.sink_tells → Self.disk_tells
+        → Self.pushed x piece answer y → IsShownByPiece (Self.sink x).shown piece (taken answer) (Self.disk x) (Self.disk y) };
     /// The laws of these pulls.
     ghost asked_laws: { AskedLaws Self.source Self.sink Self.pulled Self.Sink.only Self.Disk.only asked };
 }

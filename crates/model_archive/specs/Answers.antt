@@ -21,7 +21,8 @@ IsAnswerAt history t query rows = IsAnswer (λ doc. IsSome (text_at history doc 
 
 -- the answer to a query over [a, b): for each document the longest stretches of one score in which a text of it is alive that matches
 abbrev pub IsSpanAnswerAt : History → ℕ → ℕ → Query → List SpanRow → Type 0
-IsSpanAnswerAt history a b query rows = IsSpanAnswer (λ doc t. is_some (text_at history doc t)) (λ doc t word. frequency_at history word doc t) query a b rows
+IsSpanAnswerAt history a b query rows = IsSpanAnswer (λ doc t. is_some (text_at history doc t))
+    (λ doc t word. frequency_at history word doc t) query a b rows
 
 -- a word's whole list: a posting for each of the longest spans of one frequency
 abbrev pub IsWordList : History → List ℕ → List Posting → Type 0

@@ -34,7 +34,8 @@ use Rattle.plans_kinds.specs.declared.proposal.Segment.{Segment}
 -- times as many postings as hold the time.
 abbrev pub PlannedReadsAreBounded : Type 0
 PlannedReadsAreBounded =
-    (h : History) (word : List ℕ) (plan : PlanEntry) (list : List Posting) (t read : ℕ) → IsLoadable h → plan_of h word ≡ Some plan → plan.kind ≡ Guarantee → IsWordList h word list
+    (h : History) (word : List ℕ) (plan : PlanEntry) (list : List Posting) (t read : ℕ) → IsLoadable h → plan_of h word ≡ Some plan
+    → plan.kind ≡ Guarantee → IsWordList h word list
     → next_cut (seconds plan.cuts) plan.horizon.seconds ≤ t → t < plan.horizon.seconds → IsReadOf h word (Some plan) t (t + 1) read
     → read * plan.fraction.under ≤ plan.fraction.over * alive_count t list
 
@@ -46,13 +47,15 @@ pub record AreDocumentsWith (history : History) (word : List ℕ) (t : ℕ) (doc
 -- As many postings of a word's list hold a time as there are documents in whose text alive then the word occurs.
 abbrev pub HoldersAreDocuments : Type 0
 HoldersAreDocuments =
-    (h : History) (word : List ℕ) (list : List Posting) (t : ℕ) → IsWordList h word list → t < 2 ^ 40 → (docs : List ℕ) × AreDocumentsWith h word t docs × (length docs ≡ alive_count t list)
+    (h : History) (word : List ℕ) (list : List Posting) (t : ℕ) → IsWordList h word list → t < 2 ^ 40
+    → (docs : List ℕ) × AreDocumentsWith h word t docs × (length docs ≡ alive_count t list)
 
 -- The sublists of a word's plan under a space bound have together at most the plan's factor times as many postings as the word's list up to the
 -- horizon, rounded down.
 abbrev pub PlannedSpaceIsCapped : Type 0
 PlannedSpaceIsCapped =
-    (h : History) (word : List ℕ) (plan : PlanEntry) (list : List Posting) → IsLoadable h → plan_of h word ≡ Some plan → (plan.kind ≡ Guarantee → ⊥)
+    (h : History) (word : List ℕ) (plan : PlanEntry) (list : List Posting) → IsLoadable h → plan_of h word ≡ Some plan
+    → (plan.kind ≡ Guarantee → ⊥)
     → IsListUpTo h word plan.horizon.seconds list → plan_space list plan.cuts plan.horizon.seconds ≤ cap plan.fraction (length list)
 
 -- What is made from pages that hold the live plans is the answer, and costs what it should.
@@ -63,26 +66,31 @@ MadeAtStands =
 
 abbrev pub MadeOverStands : Type 0
 MadeOverStands =
-    (h : History) (pages : List ℕ) (a b : ℕ) (query : Query) (rows : List SpanRow) (read : ℕ) → IsLoadable h → HoldsPlans h pages → b ≤ 2 ^ 40
+    (h : History) (pages : List ℕ) (a b : ℕ) (query : Query) (rows : List SpanRow) (read : ℕ) → IsLoadable h → HoldsPlans h pages
+    → b ≤ 2 ^ 40
     → IsMadeOver h pages a b query rows read → IsSpanAnswerAt h a b query rows × IsReadFor h a b (words_of query) read
 
 -- And in such pages nothing is damaged.
 abbrev pub HeldIsUndamaged : Type 0
 HeldIsUndamaged =
-    (h : History) (pages : List ℕ) (word : List ℕ) (a b : ℕ) (damage : Damage) → IsLoadable h → HoldsPlans h pages → IsDamagedFor h pages word a b damage → ⊥
+    (h : History) (pages : List ℕ) (word : List ℕ) (a b : ℕ) (damage : Damage) → IsLoadable h → HoldsPlans h pages
+    → IsDamagedFor h pages word a b damage → ⊥
 
 -- Whatever is in Pages: a document that has one of some words without plans at a time in [a, b), by what is chosen of them for [a, b), is alive
 -- then.
 abbrev pub UnplannedHitsAreAlive : Type 0
 UnplannedHitsAreAlive =
-    (h : History) (pages : List ℕ) (a b t : ℕ) (words : List (List ℕ)) (parts : List Part) (doc : DocId) → b ≤ 2 ^ 40 → All (λ word. plan_of h word ≡ None) words
+    (h : History) (pages : List ℕ) (a b t : ℕ) (words : List (List ℕ)) (parts : List Part) (doc : DocId) → b ≤ 2 ^ 40
+    → All (λ word. plan_of h word ≡ None) words
     → AreChosen h pages a b words parts → a ≤ t → t < b → HasHit words parts t doc → IsSome (text_at h doc t)
 
 -- Where each plan is what its kind promises, what is certified of a stored one is a proposal: the plan is least, and no partition takes less than its numbers say.
 abbrev pub CertifiedPlansAreLeast : Type 0
 CertifiedPlansAreLeast =
-    (h : History) (word : List ℕ) (plan : PlanEntry) (list : List Posting) (segments : List Segment) (nodes : List Node) (total : ℕ) → IsLegal h → plan_of h word ≡ Some plan → plan.kind ≡ Guarantee
-    → IsListUpTo h plan.word plan.horizon.seconds list → IsCertificate list plan.fraction plan.cuts plan.horizon.seconds segments nodes total
+    (h : History) (word : List ℕ) (plan : PlanEntry) (list : List Posting) (segments : List Segment) (nodes : List Node) (total : ℕ)
+    → IsLegal h → plan_of h word ≡ Some plan → plan.kind ≡ Guarantee
+    → IsListUpTo h plan.word plan.horizon.seconds list
+    → IsCertificate list plan.fraction plan.cuts plan.horizon.seconds segments nodes total
     → IsProposal list plan.fraction plan.horizon.seconds segments nodes total
 
 -- Where each plan is what its kind promises, a check of pages that hold them tells that all is as it should be.

@@ -22,7 +22,8 @@ IsStoring other = ⊥
 -- the replies are the same, or two proposals that differ in their segments alone
 abbrev pub SameButSegments : Reply → Reply → Type 0
 SameButSegments reply other = (reply ≡ other)
-    ⊎ ((segments others : List Segment) × (nodes : List Node) × (total : ℕ) × (reply ≡ Proposed segments nodes total) × (other ≡ Proposed others nodes total))
+    ⊎ ((segments others : List Segment) × (nodes : List Node) × (total : ℕ) × (reply ≡ Proposed segments nodes total)
+    × (other ≡ Proposed others nodes total))
 
 -- what is told of two plans that are stored is the same, but for the number of their segments; and plans under a space bound may differ in space
 pub record SamePlanned (one other : Summary) : Type 0 where

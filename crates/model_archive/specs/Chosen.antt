@@ -31,7 +31,8 @@ use Rattle.model_archive.specs.Plans.{plan_of}
 -- a word's list from the horizon h on, a posting for each of the longest spans of one frequency, where the window that ends at b reaches past it; and
 -- nothing elsewhere
 abbrev pub IsTailFor : History → List ℕ → ℕ → ℕ → List Posting → Type 0
-IsTailFor history word b h tail = ((h < b) × IsListOf (λ doc t. frequency_at history word (record { 0 = doc }) t) h (2 ^ 40) tail) ⊎ ((b ≤ h) × (tail ≡ []))
+IsTailFor history word b h tail = ((h < b) × IsListOf (λ doc t. frequency_at history word (record { 0 = doc }) t) h (2 ^ 40) tail)
+    ⊎ ((b ≤ h) × (tail ≡ []))
 
 -- how many postings are read of a word for [a, b), by its live plan if it has one
 abbrev pub IsReadOf : History → List ℕ → Option PlanEntry → ℕ → ℕ → ℕ → Type 0
@@ -93,7 +94,8 @@ pub record SpoilsAnswer (history : History) (pages : List ℕ) (a b : ℕ) (phra
 -- the pieces of the pages that are asked for, for a word over [a, b), by its live plan if it has one: those of the places that are chosen, in order
 abbrev pub pieces_chosen : List ℕ → Option PlanEntry → ℕ → ℕ → List Kept
 pieces_chosen pages None a b = []
-pieces_chosen pages (Some plan) a b = let h = plan.horizon.seconds in pieces_of_all pages (chosen a b h true (seconds plan.cuts) plan.places)
+pieces_chosen pages (Some plan) a b = let h = plan.horizon.seconds in pieces_of_all pages
+    (chosen a b h true (seconds plan.cuts) plan.places)
 
 -- and for some words, in their order
 abbrev pub pieces_for : History → List ℕ → ℕ → ℕ → List (List ℕ) → List Kept

@@ -73,7 +73,8 @@ full_words before entry = when (nat_lt (limit_of Words) (length (vocabulary (bef
 
 -- why an act may not come after a history, as an entry of its own: the first cause in order
 abbrev pub act_refusal : History → Act → Option Refusal
-act_refusal before (batched.Arrive doc at text) = first_of (option_map refusal_of (arrive_refusal doc at (changes before)) ∷ full_words before (Arrive doc at text) ∷ [])
+act_refusal before (batched.Arrive doc at text) = first_of (option_map refusal_of (arrive_refusal doc at (changes before))
+    ∷ full_words before (Arrive doc at text) ∷ [])
 act_refusal before (batched.Delete doc at) = option_map refusal_of (delete_refusal doc at (changes before))
 
 -- why acts may not come after a history, each behind those before it: the cause of the first that may not

@@ -29,7 +29,8 @@ IsListUpTo history word h list = IsListOf (λ doc t. frequency_at history word (
 -- a list that isn't empty: refused where its boundaries are too many
 abbrev pub OfBoundaries : ℕ → List Posting → (Refusal → Type 0) → Type 0 → Type 0
 OfBoundaries h list Refuses GoesOn =
-    (times : List ℕ) × AreBoundaries list h times × (((widest < length times) × Refuses (refusals.TooWide (length times))) ⊎ ((length times ≤ widest) × GoesOn))
+    (times : List ℕ) × AreBoundaries list h times
+    × (((widest < length times) × Refuses (refusals.TooWide (length times))) ⊎ ((length times ≤ widest) × GoesOn))
 
 -- a list that isn't empty, by the plan's kind: under a space bound it may have any number of boundaries
 abbrev pub OfWidth : Kind → ℕ → List Posting → (Refusal → Type 0) → Type 0 → Type 0
@@ -48,7 +49,8 @@ OfKnown history word Refuses GoesOn = ((IsKnown history word → ⊥) × Refuses
 -- a word, and then its list up to the last time: refused by the first of these tests that fails
 abbrev pub OfWord : Kind → History → List ℕ → (Refusal → Type 0) → (List Posting → Type 0) → Type 0
 OfWord kind history word Refuses GoesOn =
-    OfKnown history word Refuses ((list : List Posting) × IsListUpTo history word (last_second history) list × OfList kind (last_second history) list Refuses (GoesOn list))
+    OfKnown history word Refuses ((list : List Posting) × IsListUpTo history word (last_second history) list
+    × OfList kind (last_second history) list Refuses (GoesOn list))
 
 -- a phrase by its key, or by None where it isn't one term: either it is refused, or it goes on with its word and the word's list
 abbrev pub OfPhrase : Kind → History → Option (List ℕ) → (Refusal → Type 0) → (List ℕ → List Posting → Type 0) → Type 0

@@ -53,7 +53,8 @@ refusal_text why = codes "no " ++ decimal (number_of why) ++ codes " " ++ detail
 
 -- the line of a refusal for an item of a batch: the same, and the item's number
 abbrev pub refusal_in_text : Refusal → ℕ → List ℕ
-refusal_in_text why index = codes "no " ++ decimal (number_of why) ++ codes " " ++ detail_text why ++ codes " in " ++ decimal index ++ 10 ∷ []
+refusal_in_text why index = codes "no " ++ decimal (number_of why) ++ codes " " ++ detail_text why ++ codes " in " ++ decimal index ++ 10
+    ∷ []
 
 -- the line of a row: the document and the score
 abbrev pub row_text : Row → List ℕ
@@ -62,7 +63,8 @@ row_text row = codes "hit " ++ decimal row.doc.0 ++ codes " " ++ decimal row.sco
 -- the line of a row over time: the document, its first second and the one behind its last, and the score
 abbrev pub span_text : SpanRow → List ℕ
 span_text row =
-    codes "span " ++ decimal row.doc.0 ++ codes " " ++ decimal row.span.from ++ codes " " ++ decimal row.span.to ++ codes " " ++ decimal row.score ++ 10 ∷ []
+    codes "span " ++ decimal row.doc.0 ++ codes " " ++ decimal row.span.from ++ codes " " ++ decimal row.span.to ++ codes " "
+    ++ decimal row.score ++ 10 ∷ []
 
 -- the last line of an answer: how many rows there are, and how many postings were read
 abbrev pub end_text : ℕ → ℕ → List ℕ
@@ -104,7 +106,8 @@ cost_text (Some cost) = codes " cost " ++ decimal cost
 
 -- the line of a plan that was stored
 abbrev pub summary_text : Summary → List ℕ
-summary_text s = codes "plan " ++ decimal s.length ++ codes " segments " ++ decimal s.segments ++ codes " space " ++ decimal s.space ++ codes " full " ++ decimal s.full
+summary_text s = codes "plan " ++ decimal s.length ++ codes " segments " ++ decimal s.segments ++ codes " space " ++ decimal s.space
+    ++ codes " full " ++ decimal s.full
     ++ codes " horizon " ++ decimal s.horizon.seconds ++ cost_text s.cost ++ 10 ∷ []
 
 -- a digit in base 16
@@ -121,7 +124,8 @@ byte_text (Some byte) = digit_text (byte / 16) ∷ digit_text (byte % 16) ∷ []
 abbrev pub verdict_text : Verdict → List ℕ
 verdict_text (Sound words segments) = codes "sound " ++ decimal words ++ codes " " ++ decimal segments
 verdict_text (Differs word segment place found wanted) =
-    codes "differs " ++ word ++ codes " " ++ decimal segment ++ codes " " ++ decimal place ++ codes " " ++ byte_text found ++ codes " " ++ byte_text wanted
+    codes "differs " ++ word ++ codes " " ++ decimal segment ++ codes " " ++ decimal place ++ codes " " ++ byte_text found ++ codes " "
+    ++ byte_text wanted
 verdict_text (NotLeast word taken least) = codes "notleast " ++ word ++ codes " " ++ decimal taken ++ codes " " ++ decimal least
 verdict_text (BadText doc at) = codes "badtext " ++ decimal doc.0 ++ codes " " ++ decimal at.seconds
 

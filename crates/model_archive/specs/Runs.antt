@@ -14,7 +14,8 @@ pub record Outcome (R S : Type 0) : Type 0 where
 -- a run from a state: an outcome for each event, each a step from the state before
 abbrev pub IsRun : {S E R : Type 0} → (S → E → R → S → Type 0) → S → List E → List (Outcome R S) → Type 0
 IsRun step state [] [] = Unit {0}
-IsRun step state (event ∷ events) (outcome ∷ outcomes) = step state event outcome.reply outcome.next × IsRun step outcome.next events outcomes
+IsRun step state (event ∷ events) (outcome ∷ outcomes) = step state event outcome.reply outcome.next
+    × IsRun step outcome.next events outcomes
 IsRun step state events outcomes = ⊥
 
 -- the state after so many outcomes
@@ -35,7 +36,8 @@ pub record IsAcknowledged {S R : Type 0} (text : R → List ℕ) (outcomes : Lis
 
 -- An image, with the bytes shown when it was left, stands for the state after j outcomes, where j is the number of outcomes that
 -- the bytes shown in this run acknowledge, or one more. What was shown before the run doesn't count.
-pub record Reopens {S R : Type 0} (text : R → List ℕ) (stands : S → Bytes → Type 0) (state : S) (outcomes : List (Outcome R S)) (before : List ℕ)
+pub record Reopens {S R : Type 0} (text : R → List ℕ) (stands : S → Bytes → Type 0) (state : S) (outcomes : List (Outcome R S))
+    (before : List ℕ)
     (image : Bytes) (beside : List ℕ) : Type 0 where
   pub shown : List ℕ
   pub shown_is : beside ≡ before ++ shown

@@ -21,6 +21,8 @@ last_state state [] = state
 last_state state (outcome ∷ outcomes) = last_state outcome.next outcomes
 
 -- Outcomes that were carried out: each image left since the start stands by what was shown of the run then.
-pub record Carried {S R : Type 0} (text : R → List ℕ) (stands : S → Bytes → Type 0) (state : S) (outcomes : List (Outcome R S)) (before : List ℕ) (old new : DiskState) : Type 0 where
+pub record Carried {S R : Type 0} (text : R → List ℕ) (stands : S → Bytes → Type 0) (state : S) (outcomes : List (Outcome R S))
+    (before : List ℕ) (old new : DiskState) : Type 0 where
   pub goes_on : GoesOn old new
-  pub images : LeavesOnly old new (λ image beside. (shown : List ℕ) × (beside ≡ before ++ shown) × StandsAlong text stands state outcomes image shown)
+  pub images : LeavesOnly old new (λ image beside. (shown : List ℕ) × (beside ≡ before ++ shown)
+      × StandsAlong text stands state outcomes image shown)

@@ -123,7 +123,8 @@ IsReplied Finds text reply = (query : Result Query ℕ) × IsRead term_of text q
 -- what is found at a time by a query, in rows and postings read
 abbrev pub FindsBy : History → Time → Query → Reply → Type 0
 FindsBy history at query reply =
-    (rows : List Row) × (read : ℕ) × IsAnswerAt history at.seconds query rows × IsReadFor history at.seconds (at.seconds + 1) (words_of query) read × (reply ≡ Found rows read)
+    (rows : List Row) × (read : ℕ) × IsAnswerAt history at.seconds query rows
+    × IsReadFor history at.seconds (at.seconds + 1) (words_of query) read × (reply ≡ Found rows read)
 
 -- the same by a text
 abbrev pub Finds : History → Time → List ℕ → Reply → Type 0
@@ -132,7 +133,8 @@ Finds history at text reply = IsReplied (FindsBy history at) text reply
 -- the first rows of what is found at a time by a query, and the postings read, which are those for all of them
 abbrev pub TopsBy : History → TopCount → Time → Query → Reply → Type 0
 TopsBy history count at query reply =
-    (rows : List Row) × (read : ℕ) × IsAnswerAt history at.seconds query rows × IsReadFor history at.seconds (at.seconds + 1) (words_of query) read
+    (rows : List Row) × (read : ℕ) × IsAnswerAt history at.seconds query rows
+    × IsReadFor history at.seconds (at.seconds + 1) (words_of query) read
     × (reply ≡ Found (take count.number rows) read)
 
 -- the same by a text
@@ -142,7 +144,8 @@ Tops history count at text reply = IsReplied (TopsBy history count at) text repl
 -- what is found over a window of time by a query, in rows and postings read
 abbrev pub SpansBy : History → Span → Query → Reply → Type 0
 SpansBy history span query reply =
-    (rows : List SpanRow) × (read : ℕ) × IsSpanAnswerAt history span.from span.to query rows × IsReadFor history span.from span.to (words_of query) read × (reply ≡ Spanned rows read)
+    (rows : List SpanRow) × (read : ℕ) × IsSpanAnswerAt history span.from span.to query rows
+    × IsReadFor history span.from span.to (words_of query) read × (reply ≡ Spanned rows read)
 
 -- the same by a text
 abbrev pub Spans : History → Span → List ℕ → Reply → Type 0
@@ -151,12 +154,14 @@ Spans history span text reply = IsReplied (SpansBy history span) text reply
 -- any least plan of a list is proposed
 abbrev pub ProposesPlan : Fraction → ℕ → List Posting → Reply → Type 0
 ProposesPlan factor horizon list reply =
-    (segments : List Segment) × (nodes : List Node) × (total : ℕ) × IsProposal list factor horizon segments nodes total × (reply ≡ Proposed segments nodes total)
+    (segments : List Segment) × (nodes : List Node) × (total : ℕ) × IsProposal list factor horizon segments nodes total
+    × (reply ≡ Proposed segments nodes total)
 
 -- what is proposed for a phrase: it is refused, or a least plan of its word's list up to the last time is told
 abbrev pub Proposes : History → List ℕ → Fraction → Reply → Type 0
 Proposes history phrase factor reply =
-    OfPhrase Guarantee history (one_term phrase) (λ why. reply ≡ Refused why) (λ word list. ProposesPlan factor (last_second history) list reply)
+    OfPhrase Guarantee history (one_term phrase) (λ why. reply ≡ Refused why)
+    (λ word list. ProposesPlan factor (last_second history) list reply)
 
 -- the stored plan of a list, as it is certified: the partition by its cuts is shown, with the least space up to each boundary
 abbrev pub IsCertificate : List Posting → Fraction → List Time → ℕ → List Segment → List Node → ℕ → Type 0
@@ -166,7 +171,8 @@ IsCertificate list factor (f ∷ cuts) h segments nodes total = IsShown list fac
 -- what is certified of a live plan, by its kind: only one that keeps to a guarantee has a certificate
 abbrev pub CertifiesPlan : History → PlanEntry → Kind → Reply → Type 0
 CertifiesPlan history plan Guarantee reply = (list : List Posting) × IsListUpTo history plan.word plan.horizon.seconds list
-    × ((segments : List Segment) × (nodes : List Node) × (total : ℕ) × IsCertificate list plan.fraction plan.cuts plan.horizon.seconds segments nodes total × (reply ≡ Proposed segments nodes total))
+    × ((segments : List Segment) × (nodes : List Node) × (total : ℕ)
+    × IsCertificate list plan.fraction plan.cuts plan.horizon.seconds segments nodes total × (reply ≡ Proposed segments nodes total))
 CertifiesPlan history plan other reply = reply ≡ Refused refusals.NoPlan
 
 -- what is certified of a word's live plan, if it has one
@@ -176,7 +182,8 @@ CertifiesLive history (Some plan) reply = CertifiesPlan history plan plan.kind r
 
 -- what is certified for a phrase: it is refused, or its word's live plan is certified
 abbrev pub Certifies : History → List ℕ → Reply → Type 0
-Certifies history phrase reply = OfTerm history (one_term phrase) (λ why. reply ≡ Refused why) (λ word. CertifiesLive history (plan_of history word) reply)
+Certifies history phrase reply = OfTerm history (one_term phrase) (λ why. reply ≡ Refused why)
+    (λ word. CertifiesLive history (plan_of history word) reply)
 
 -- a command that is refused changes nothing
 abbrev pub Declines : History → Refusal → Reply → History → Type 0
@@ -190,7 +197,8 @@ in_blocks word kind factor horizon cuts places =
 -- a plan's entry comes behind the history; or it is refused, as with it the journal would pass its limit
 abbrev pub AddsPlan : History → PlanEntry → Option Refusal → List Posting → Reply → History → Type 0
 AddsPlan old plan None list reply new =
-    (new ≡ old ++ entries.Planned plan ∷ []) × ((cost : Option ℕ) × IsCostOf plan.kind list plan.cuts plan.horizon.seconds cost × (reply ≡ Planned (record {
+    (new ≡ old ++ entries.Planned plan ∷ [])
+    × ((cost : Option ℕ) × IsCostOf plan.kind list plan.cuts plan.horizon.seconds cost × (reply ≡ Planned (record {
       length = length new;
       segments = length plan.cuts;
       space = plan_space list plan.cuts plan.horizon.seconds;
@@ -206,10 +214,12 @@ abbrev pub StoresCuts : History → List ℕ → Kind → Fraction → Time → 
 StoresCuts old word kind factor horizon cuts list reply new = let bytes = spellings Blocks list (seconds cuts) horizon.seconds in
     (HaveNoRoom (live_extents old) (sizes bytes) × Declines old (refusals.Full Pages (limit_of Pages)) reply new)
     ⊎ ((places : List Place) × ArePlaced (live_extents old) (sizes bytes) (extents places) × AllZip IsFor places bytes
-    × (let plan = in_blocks word kind factor horizon cuts places in AddsPlan old plan (full_journal old (entries.Planned plan)) list reply new))
+    × (let plan = in_blocks word kind factor horizon cuts places in AddsPlan old plan (full_journal old (entries.Planned plan)) list reply
+    new))
 
 -- any plan of a word's list up to the last time that is what its kind promises is stored, if there is room for it
-pub record StoresPlan (old : History) (kind : Kind) (factor : Fraction) (word : List ℕ) (list : List Posting) (reply : Reply) (new : History) : Type 0 where
+pub record StoresPlan (old : History) (kind : Kind) (factor : Fraction) (word : List ℕ) (list : List Posting) (reply : Reply)
+    (new : History) : Type 0 where
   pub horizon : Time
   pub horizon_is : horizon.seconds ≡ last_second old
   pub cuts : List Time
@@ -225,7 +235,8 @@ spelled_key (Some key) = if is_utf8 key then Some key else None
 -- what becomes of a phrase that is to be planned: it is refused, or a plan of its word's list is stored that is what its kind promises
 abbrev pub Plans : History → List ℕ → Kind → Fraction → Reply → History → Type 0
 Plans old phrase kind factor reply new =
-    OfPhrase kind old (spelled_key (one_term phrase)) (λ why. Declines old why reply new) (λ word list. StoresPlan old kind factor word list reply new)
+    OfPhrase kind old (spelled_key (one_term phrase)) (λ why. Declines old why reply new)
+    (λ word list. StoresPlan old kind factor word list reply new)
 
 -- a version arrives, with a text that was held, or with one that is too long to be
 abbrev pub Arrives : History → DocId → Time → Text → Reply → History → Type 0
@@ -261,7 +272,8 @@ text_refusal (texts.TooLong bytes) = Some (refusals.TooLong most_text)
 
 -- why an item may not come after a history: its text is none, or the act may not come
 abbrev pub item_refusal : History → BatchItem → Option Refusal
-item_refusal before (members.Arrive doc at text) = first_of (text_refusal text ∷ act_refusal before (batched.Arrive doc at (text_held text)) ∷ [])
+item_refusal before (members.Arrive doc at text) = first_of (text_refusal text ∷ act_refusal before (batched.Arrive doc at (text_held text))
+    ∷ [])
 item_refusal before (members.Delete doc at) = act_refusal before (batched.Delete doc at)
 item_refusal before members.Other = None
 

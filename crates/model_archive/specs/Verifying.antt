@@ -46,13 +46,15 @@ pub record IsFirstToWaste (word : List ℕ) (taken least : ℕ) (history : Histo
 
 -- what a verdict says of a history's live plans in this order
 abbrev pub Judges : History → List StoredPlan → Verdict → Type 0
-Judges history plans (Sound words segments) = All (λ s. TakesLeast history s.plan) plans × (words ≡ length (live_plans history)) × (segments ≡ segments_of (live_plans history))
+Judges history plans (Sound words segments) = All (λ s. TakesLeast history s.plan) plans × (words ≡ length (live_plans history))
+    × (segments ≡ segments_of (live_plans history))
 Judges history plans (NotLeast word taken least) = IsFirstToWaste word taken least history plans
 Judges history plans other = ⊥
 
 -- what is told of a history: its live plans are judged by the numbers of their words
 abbrev pub Verifies : History → Verdict → Type 0
-Verifies history verdict = (ordered : List StoredPlan) × AreByNumber (vocabulary history) (live_plans history) ordered × Judges history ordered verdict
+Verifies history verdict = (ordered : List StoredPlan) × AreByNumber (vocabulary history) (live_plans history) ordered
+    × Judges history ordered verdict
 
 -- that all is as it should be: so many words have a live plan, and these have so many segments
 abbrev pub sound_of : History → Verdict

@@ -33,12 +33,18 @@ pub fn a_history_is_legal_entry_by_entry()
 /// is refused.) Where the item's document is in range, an outcome leads from a history that loads to one
 /// that loads, and from a legal one to a legal one. Does nothing.
 pub fn each_item_has_one_outcome()
-    ensures outcome { (w : World) (item : Item) → IsLoadable w.history → (outcome : Outcome Reply World) × Step w item outcome.reply outcome.next }
-    ensures one { (w : World) (item : Item) (reply other : Reply) (next then : World) → (IsChoice item → ⊥) → Step w item reply next → Step w item other then → (reply ≡ other) × (next ≡ then) }
-    ensures but_segments { (w : World) (item : Item) (reply other : Reply) (next then : World) → (IsStoring item → ⊥) → Step w item reply next → Step w item other then → SameButSegments reply other × (next ≡ then) }
-    ensures plans { (w : World) (item : Item) (one other : Summary) (next then : World) → Step w item (Planned one) next → Step w item (Planned other) then → SamePlanned one other }
-    ensures loads { (w : World) (item : Item) (reply : Reply) (next : World) → IsLoadable w.history → HasDocument item → Step w item reply next → IsLoadable next.history }
-    ensures legal { (w : World) (item : Item) (reply : Reply) (next : World) → IsLegal w.history → HasDocument item → Step w item reply next → IsLegal next.history }
+    ensures outcome { (w : World) (item : Item) → IsLoadable w.history
+        → (outcome : Outcome Reply World) × Step w item outcome.reply outcome.next }
+    ensures one { (w : World) (item : Item) (reply other : Reply) (next then : World) → (IsChoice item → ⊥) → Step w item reply next
+        → Step w item other then → (reply ≡ other) × (next ≡ then) }
+    ensures but_segments { (w : World) (item : Item) (reply other : Reply) (next then : World) → (IsStoring item → ⊥)
+        → Step w item reply next → Step w item other then → SameButSegments reply other × (next ≡ then) }
+    ensures plans { (w : World) (item : Item) (one other : Summary) (next then : World) → Step w item (Planned one) next
+        → Step w item (Planned other) then → SamePlanned one other }
+    ensures loads { (w : World) (item : Item) (reply : Reply) (next : World) → IsLoadable w.history → HasDocument item
+        → Step w item reply next → IsLoadable next.history }
+    ensures legal { (w : World) (item : Item) (reply : Reply) (next : World) → IsLegal w.history → HasDocument item → Step w item reply next
+        → IsLegal next.history }
 {}
 
 /// An image stands for one history at most, and one that stands for a history isn't refused at any

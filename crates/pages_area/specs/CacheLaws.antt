@@ -16,11 +16,13 @@ AskedTwiceMissesOnce = (k : Kept) (cache : List Kept) → missed_by_all (k ∷ k
 
 -- asking keeps 1,024 pages at most, and none twice
 abbrev pub FewAreKept : Type 0
-FewAreKept = (k : Kept) (cache : List Kept) → AreDistinct cache → AreDistinct (after_asking k cache) × (length (after_asking k cache) ≤ 1024)
+FewAreKept = (k : Kept) (cache : List Kept) → AreDistinct cache → AreDistinct (after_asking k cache)
+    × (length (after_asking k cache) ≤ 1024)
 
 -- asking for some pages and then for others is asking for all of them
 abbrev pub AskingsJoin : Type 0
-AskingsJoin = (ks ls : List Kept) (cache : List Kept) → (after_asking_all (ks ++ ls) cache ≡ after_asking_all ls (after_asking_all ks cache))
+AskingsJoin = (ks ls : List Kept) (cache : List Kept)
+    → (after_asking_all (ks ++ ls) cache ≡ after_asking_all ls (after_asking_all ks cache))
     × (missed_by_all (ks ++ ls) cache ≡ missed_by_all ks cache + missed_by_all ls (after_asking_all ks cache))
 
 -- each page with the length of its piece
@@ -29,11 +31,13 @@ sizes_of ks = map (λ k. (k.page, length k.bytes)) ks
 
 -- what is missed is so by pages and lengths alone
 abbrev pub MissesAreBySizes : Type 0
-MissesAreBySizes = (ks ls : List Kept) (cache other : List Kept) → sizes_of ks ≡ sizes_of ls → sizes_of cache ≡ sizes_of other → missed_by_all ks cache ≡ missed_by_all ls other
+MissesAreBySizes = (ks ls : List Kept) (cache other : List Kept) → sizes_of ks ≡ sizes_of ls → sizes_of cache ≡ sizes_of other
+    → missed_by_all ks cache ≡ missed_by_all ls other
 
 -- a cache that stands for Pages gives what Pages holds, and goes on standing for it
 abbrev pub AskingStands : Type 0
-AskingStands = (k : Kept) (cache : List Kept) (pages : List ℕ) → StandsFor cache pages → IsGiven pages cache k → IsHeld pages k × StandsFor (after_asking k cache) pages
+AskingStands = (k : Kept) (cache : List Kept) (pages : List ℕ) → StandsFor cache pages → IsGiven pages cache k
+    → IsHeld pages k × StandsFor (after_asking k cache) pages
 
 -- and so it does while only extents are written that have none of its pages
 abbrev pub WritesApartStand : Type 0
@@ -51,9 +55,11 @@ LieIn extents cache = All (λ k. IsTaken extents k.page) cache
 
 -- where the pages of an extent among them are asked for, all of them or the first ones
 abbrev pub AskedLieInTaken : Type 0
-AskedLieInTaken = (extents : List Extent) (e : Extent) (n : ℕ) (bytes : List ℕ) (cache : List Kept) → ((p : ℕ) → IsPageOf e p → IsTaken extents p)
+AskedLieInTaken = (extents : List Extent) (e : Extent) (n : ℕ) (bytes : List ℕ) (cache : List Kept)
+    → ((p : ℕ) → IsPageOf e p → IsTaken extents p)
     → n ≤ pages_for e.bytes → LieIn extents cache → LieIn extents (after_asking_all (first_pieces n e.first bytes) cache)
 
 -- and where the pages of one of them are given back
 abbrev pub LeftLieInRest : Type 0
-LeftLieInRest = (before after : List Extent) (e : Extent) (cache : List Kept) → LieIn (before ++ e ∷ after) cache → LieIn (before ++ after) (without_pages e cache)
+LeftLieInRest = (before after : List Extent) (e : Extent) (cache : List Kept) → LieIn (before ++ e ∷ after) cache
+    → LieIn (before ++ after) (without_pages e cache)

@@ -23,5 +23,6 @@ pub record IsNext (live : List Extent) (reach index : ℕ) (e : Extent) : Type 0
 -- Why extents aren't taken: the first that doesn't pass doesn't lie inside, or it does and shares a page with an earlier one.
 abbrev pub IsRefused : List Extent → ℕ → LiveError → Type 0
 IsRefused live reach (Outside index) = (e : Extent) × (IsNext live reach index e × (reach < e.first * 4096 + e.bytes))
-IsRefused live reach (Clash index) = (e : Extent) × (IsNext live reach index e × (IsInside reach e × ((p : ℕ) × (IsPageOf e p × IsTaken (take index live) p))))
+IsRefused live reach (Clash index) = (e : Extent)
+    × (IsNext live reach index e × (IsInside reach e × ((p : ℕ) × (IsPageOf e p × IsTaken (take index live) p))))
 IsRefused live reach Memory = Unit {0}

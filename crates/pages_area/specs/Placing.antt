@@ -7,7 +7,8 @@ use Rattle.pages_area.specs.Runs.{IsFreeRun, IsLowestRun, pages_for}
 -- before it.
 abbrev pub ArePlaced : List Extent → List ℕ → List Extent → Type 0
 ArePlaced taken [] [] = Unit {0}
-ArePlaced taken (bytes ∷ sizes) (e ∷ extents) = (e.bytes ≡ bytes) × IsLowestRun taken (pages_for bytes) e.first × ArePlaced (e ∷ taken) sizes extents
+ArePlaced taken (bytes ∷ sizes) (e ∷ extents) = (e.bytes ≡ bytes) × IsLowestRun taken (pages_for bytes) e.first
+    × ArePlaced (e ∷ taken) sizes extents
 ArePlaced taken [] (e ∷ extents) = ⊥
 ArePlaced taken (bytes ∷ sizes) [] = ⊥
 
@@ -19,11 +20,13 @@ HaveNoRoom taken (bytes ∷ sizes) = ((first : ℕ) → IsFreeRun taken (pages_f
 
 -- Whatever is taken, the parts are placed, or there is no room for them.
 abbrev pub EachIsPlacedOrNot : Type 0
-EachIsPlacedOrNot = (taken : List Extent) (sizes : List ℕ) → ((extents : List Extent) × ArePlaced taken sizes extents) ⊎ HaveNoRoom taken sizes
+EachIsPlacedOrNot = (taken : List Extent) (sizes : List ℕ) → ((extents : List Extent) × ArePlaced taken sizes extents)
+    ⊎ HaveNoRoom taken sizes
 
 -- Never both.
 abbrev pub NoneIsPlacedAndNot : Type 0
-NoneIsPlacedAndNot = (taken : List Extent) (sizes : List ℕ) (extents : List Extent) → ArePlaced taken sizes extents → ¬ (HaveNoRoom taken sizes)
+NoneIsPlacedAndNot = (taken : List Extent) (sizes : List ℕ) (extents : List Extent) → ArePlaced taken sizes extents
+    → ¬ (HaveNoRoom taken sizes)
 
 -- The parts lie in one way.
 abbrev pub OneListOfPlaces : Type 0

@@ -42,9 +42,11 @@ reach_with e reach = if e.bytes == 0 then reach else max reach (e.first * 4096 +
 
 -- the bytes of an extent stay where only extents apart from it are written
 abbrev pub ExtentsApartStay : Type 0
-ExtentsApartStay = (e : Extent) (others : List Extent) (was pages : List ℕ) → IsApartFrom e others → (0 < e.bytes → e.first * 4096 + e.bytes ≤ length was)
+ExtentsApartStay = (e : Extent) (others : List Extent) (was pages : List ℕ) → IsApartFrom e others
+    → (0 < e.bytes → e.first * 4096 + e.bytes ≤ length was)
     → SameOutside (map range_of others) was pages → bytes_in e pages ≡ bytes_in e was
 
 -- good writes to extents that share no page, one behind the other, are good writes to all of them
 abbrev pub GoodWritesJoin : Type 0
-GoodWritesJoin = (xs ys : List Piece) (a b c : Bytes) → AreApart (extents_of (xs ++ ys)) → Wrote xs a b → Wrote ys b c → Wrote (xs ++ ys) a c
+GoodWritesJoin = (xs ys : List Piece) (a b c : Bytes) → AreApart (extents_of (xs ++ ys)) → Wrote xs a b → Wrote ys b c
+    → Wrote (xs ++ ys) a c

@@ -69,15 +69,20 @@ impl PageCache {
         // It failed only where the disk's count rose; where there was no memory the disk wasn't asked.
         ensures cause { IfErr result (IsCause (Rose (D.disk disk.old).faults (D.disk disk.new).faults) (disk.new ≡ disk.old)) }
         // A hit gives the bytes that are kept, asks no disk and takes no memory.
-        ensures hit { IsTrue (is_hit (extent.first + index) (length buf.old) self.old) → IsOk result × Contains self.old (record { page = extent.first + index; bytes = buf.new }) × (disk.new ≡ disk.old) }
+        ensures hit { IsTrue (is_hit (extent.first + index) (length buf.old) self.old)
+            → IsOk result × Contains self.old (record { page = extent.first + index; bytes = buf.new }) × (disk.new ≡ disk.old) }
         ensures asked { OnOk result (self.new ≡ after_asking (record { page = extent.first + index; bytes = buf.new }) self.old) }
         ensures kept { OnErr result (self.new ≡ self.old) }
         // At a hit the bytes are the kept ones, at a miss what reads give.
-        ensures given { D.disk_tells → OnOk result (IsGiven (D.disk disk.old).holds.pages self.old (record { page = extent.first + index; bytes = buf.new })) }
-        ensures bytes { D.disk_tells → StandsFor self.old (D.disk disk.old).holds.pages → OnOk result (buf.new ≡ take (length buf.old) (drop ((extent.first + index) * 4096) (D.disk disk.old).holds.pages)) }
+        ensures given { D.disk_tells
+            → OnOk result (IsGiven (D.disk disk.old).holds.pages self.old (record { page = extent.first + index; bytes = buf.new })) }
+        ensures bytes { D.disk_tells → StandsFor self.old (D.disk disk.old).holds.pages
+            → OnOk result (buf.new ≡ take (length buf.old) (drop ((extent.first + index) * 4096) (D.disk disk.old).holds.pages)) }
         ensures stays { D.disk_tells → StandsFor self.old (D.disk disk.old).holds.pages → StandsFor self.new (D.disk disk.new).holds.pages }
         // A miss reads the piece, and nothing else is read.
-        ensures count { D.disk_tells → OnOk result ((D.disk disk.new).bytes_read ≡ replaced (D.disk disk.old).bytes_read Area.Pages ((D.disk disk.old).bytes_read.pages + missed (record { page = extent.first + index; bytes = buf.new }) self.old)) }
+        ensures count { D.disk_tells
+            → OnOk result ((D.disk disk.new).bytes_read ≡ replaced (D.disk disk.old).bytes_read Area.Pages
+            ((D.disk disk.old).bytes_read.pages + missed (record { page = extent.first + index; bytes = buf.new }) self.old)) }
         ensures unread { D.disk_tells → OnErr result ((D.disk disk.new).bytes_read ≡ (D.disk disk.old).bytes_read) }
     {
         let page = extent.first + index as u32;
@@ -105,14 +110,18 @@ impl PageCache {
         ensures asked { OnOk result (self.new ≡ after_asking_all (pieces extent.first buf.new) self.old) }
         // Of each page the bytes are the kept ones at a hit, and at a miss what reads give.
         ensures given { D.disk_tells → OnOk result (AreGiven (D.disk disk.old).holds.pages self.old (pieces extent.first buf.new)) }
-        ensures bytes { D.disk_tells → StandsFor self.old (D.disk disk.old).holds.pages → OnOk result (buf.new ≡ bytes_in extent (D.disk disk.old).holds.pages) }
+        ensures bytes { D.disk_tells → StandsFor self.old (D.disk disk.old).holds.pages
+            → OnOk result (buf.new ≡ bytes_in extent (D.disk disk.old).holds.pages) }
         ensures stays { D.disk_tells → StandsFor self.old (D.disk disk.old).holds.pages → StandsFor self.new (D.disk disk.new).holds.pages }
         // The pieces that are missed are read, and nothing else is.
-        ensures count { D.disk_tells → OnOk result ((D.disk disk.new).bytes_read ≡ replaced (D.disk disk.old).bytes_read Area.Pages ((D.disk disk.old).bytes_read.pages + missed_by_all (pieces extent.first buf.new) self.old)) }
+        ensures count { D.disk_tells
+            → OnOk result ((D.disk disk.new).bytes_read ≡ replaced (D.disk disk.old).bytes_read Area.Pages
+            ((D.disk disk.old).bytes_read.pages + missed_by_all (pieces extent.first buf.new) self.old)) }
         // After an error the pages before the one that wasn't read were asked for.
         ensures part { OnErr result ((n : ℕ) × ((n < pages_for extent.bytes)
             × ((self.new ≡ after_asking_all (first_pieces n extent.first buf.new) self.old)
-            × (D.disk_tells → (D.disk disk.new).bytes_read ≡ replaced (D.disk disk.old).bytes_read Area.Pages ((D.disk disk.old).bytes_read.pages + missed_by_all (first_pieces n extent.first buf.new) self.old))))) }
+            × (D.disk_tells → (D.disk disk.new).bytes_read ≡ replaced (D.disk disk.old).bytes_read Area.Pages
+            ((D.disk disk.old).bytes_read.pages + missed_by_all (first_pieces n extent.first buf.new) self.old))))) }
     {
         'pages: for index in 0..extent.pages() {
             let start = (PAGE_BYTES * index) as usize;

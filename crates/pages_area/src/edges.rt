@@ -8,7 +8,8 @@ use base_types::{Extent, MOST_PAGES, PAGE_BYTES};
 // Where an edge stands at a page; or, where none does, the place where it belongs.
 fn place_of(edges: &[u32], page: u32) -> Result<usize, usize>
     requires { AreEdges edges.now }
-    ensures { MatchResult result (λ i. (i < length edges.now) × (slice_index edges.now i ≡ page)) (λ i. (i ≤ length edges.now) × ((k : ℕ) → k < i → slice_index edges.now k < page) × ((k : ℕ) → i ≤ k → k < length edges.now → page < slice_index edges.now k)) }
+    ensures { MatchResult result (λ i. (i < length edges.now) × (slice_index edges.now i ≡ page)) (λ i. (i ≤ length edges.now)
+        × ((k : ℕ) → k < i → slice_index edges.now k < page) × ((k : ℕ) → i ≤ k → k < length edges.now → page < slice_index edges.now k)) }
 {
     edges.binary_search(&page)
 }
@@ -79,7 +80,8 @@ pub(crate) fn are_free(edges: &[u32], extent: Extent) -> bool
 pub(crate) fn first_fit(edges: &[u32], bytes: u64) -> Option<Extent>
     requires order { AreEdges edges.now }
     requires some { 1 ≤ bytes }
-    ensures { MatchOption result (HasNoFit (pages_for bytes) edges.now) (λ e. (e.bytes ≡ bytes) × IsFit (pages_for bytes) edges.now e.first) }
+    ensures { MatchOption result (HasNoFit (pages_for bytes) edges.now) (λ e. (e.bytes ≡ bytes)
+        × IsFit (pages_for bytes) edges.now e.first) }
 {
     let pages = bytes.div_ceil(PAGE_BYTES);
     let mut first = 0;

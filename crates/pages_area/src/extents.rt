@@ -43,7 +43,8 @@ impl Pages {
         // Whatever is answered, a stop leaves an image from before but for this range.
         ensures images { D.disk_tells → ChangesOnly (range_of extent ∷ []) (D.disk disk.old) (D.disk disk.new) }
         // After Ok the bytes stand there, and all else reads as it did.
-        ensures wrote { D.disk_tells → OnOk result (Wrote (record { extent = extent; bytes = bytes.now } ∷ []) (D.disk disk.old).holds (D.disk disk.new).holds) }
+        ensures wrote { D.disk_tells
+            → OnOk result (Wrote (record { extent = extent; bytes = bytes.now } ∷ []) (D.disk disk.old).holds (D.disk disk.new).holds) }
         ensures read { D.disk_tells → (D.disk disk.new).bytes_read ≡ (D.disk disk.old).bytes_read }
     {
         if bytes.is_empty() {

@@ -24,7 +24,8 @@ pub(crate) fn copy_kept(kept: &mut LruCache<u32, Vec<u8>>, page: u32, buf: &mut 
     requires order { IsInOrder kept.old }
     ensures found { result ≡ is_hit page (length buf.old) (kept_of kept.old.entries) }
     ensures piece { IsTrue result → Contains (kept_of kept.old.entries) (record { page = page; bytes = buf.new }) }
-    ensures moved { IsTrue result → kept_of kept.new.entries ≡ after_asking (record { page = page; bytes = buf.new }) (kept_of kept.old.entries) }
+    ensures moved { IsTrue result
+        → kept_of kept.new.entries ≡ after_asking (record { page = page; bytes = buf.new }) (kept_of kept.old.entries) }
     ensures order { IsInOrder kept.new }
     ensures same { result ≡ false → kept.new ≡ kept.old }
 {
@@ -54,11 +55,14 @@ pub(crate) fn read_missed<D: Disk>(
     ensures only { D.Disk.only disk.old disk.new }
     ensures same { OnlyReads (D.disk disk.old) (D.disk disk.new) }
     ensures cause { IfErr result (IsCause (Rose (D.disk disk.old).faults (D.disk disk.new).faults) (disk.new ≡ disk.old)) }
-    ensures asked { OnOk result (kept_of kept.new.entries ≡ after_asking (record { page = page; bytes = buf.new }) (kept_of kept.old.entries)) }
+    ensures asked { OnOk result
+        (kept_of kept.new.entries ≡ after_asking (record { page = page; bytes = buf.new }) (kept_of kept.old.entries)) }
     ensures kept { OnErr result (kept.new ≡ kept.old) }
     ensures order { IsInOrder kept.new }
     ensures piece { D.disk_tells → OnOk result (IsHeld (D.disk disk.old).holds.pages (record { page = page; bytes = buf.new })) }
-    ensures count { D.disk_tells → OnOk result ((D.disk disk.new).bytes_read ≡ replaced (D.disk disk.old).bytes_read Area.Pages ((D.disk disk.old).bytes_read.pages + length buf.new)) }
+    ensures count { D.disk_tells
+        → OnOk result ((D.disk disk.new).bytes_read ≡ replaced (D.disk disk.old).bytes_read Area.Pages
+        ((D.disk disk.old).bytes_read.pages + length buf.new)) }
     ensures unread { D.disk_tells → OnErr result ((D.disk disk.new).bytes_read ≡ (D.disk disk.old).bytes_read) }
 {
     let piece = vec![in alloc; 0; buf.len()]?;
@@ -115,11 +119,14 @@ fn refill<D: Disk>(
     ensures only { D.Disk.only disk.old disk.new }
     ensures same { OnlyReads (D.disk disk.old) (D.disk disk.new) }
     ensures cause { HasCause (D.disk disk.old).faults (D.disk disk.new).faults result }
-    ensures first { OnOk result (kept_of kept.new.entries ≡ record { page = page; bytes = buf.new } ∷ kept_of (remove_entry (nat_eq page) kept.old.entries)) }
+    ensures first { OnOk result (kept_of kept.new.entries ≡ record { page = page; bytes = buf.new }
+        ∷ kept_of (remove_entry (nat_eq page) kept.old.entries)) }
     ensures kept { OnErr result (kept.new ≡ kept.old) }
     ensures room { kept.new.cap ≡ kept.old.cap }
     ensures piece { D.disk_tells → OnOk result (IsHeld (D.disk disk.old).holds.pages (record { page = page; bytes = buf.new })) }
-    ensures count { D.disk_tells → OnOk result ((D.disk disk.new).bytes_read ≡ replaced (D.disk disk.old).bytes_read Area.Pages ((D.disk disk.old).bytes_read.pages + length buf.new)) }
+    ensures count { D.disk_tells
+        → OnOk result ((D.disk disk.new).bytes_read ≡ replaced (D.disk disk.old).bytes_read Area.Pages
+        ((D.disk disk.old).bytes_read.pages + length buf.new)) }
     ensures unread { D.disk_tells → OnErr result ((D.disk disk.new).bytes_read ≡ (D.disk disk.old).bytes_read) }
 {
     disk.read(Area::Pages, u64::from(page) * PAGE_BYTES, buf)?;

@@ -60,8 +60,10 @@ impl Pages {
 
     /// Takes the pages of an extent; false, and no page is taken, where one of them is.
     pub(crate) fn claim(&mut self, extent: Extent) -> Result<bool, AllocError>
-        ensures yes { IfOk result (λ free. free ≡ true → (extents : List PlainExtent) → HasTaken self.old extents → HasTaken self.new (extent ∷ extents)) }
-        ensures no { IfOk result (λ free. free ≡ false → (extents : List PlainExtent) → HasTaken self.old extents → (p : ℕ) × (IsPageOf extent p × IsTaken extents p)) }
+        ensures yes { IfOk result (λ free. free ≡ true → (extents : List PlainExtent) → HasTaken self.old extents
+            → HasTaken self.new (extent ∷ extents)) }
+        ensures no { IfOk result (λ free. free ≡ false → (extents : List PlainExtent) → HasTaken self.old extents
+            → (p : ℕ) × (IsPageOf extent p × IsTaken extents p)) }
         ensures unclaimed { IfOk result (λ free. free ≡ false → self.new ≡ self.old) }
         ensures same { OnErr result (self.new ≡ self.old) }
     {

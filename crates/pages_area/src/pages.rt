@@ -83,9 +83,11 @@ impl Pages {
     /// for giving it back. It costs a look at each free run before that one.
     pub fn take(&mut self, bytes: u64) -> Result<Extent, TakeError>
         ensures bytes { IfOk result (λ e. e.bytes ≡ bytes) }
-        ensures lowest { (extents : List PlainExtent) → HasTaken self.old extents → IfOk result (λ e. IsLowestRun extents (pages_for bytes) e.first) }
+        ensures lowest { (extents : List PlainExtent) → HasTaken self.old extents
+            → IfOk result (λ e. IsLowestRun extents (pages_for bytes) e.first) }
         ensures taken { (extents : List PlainExtent) → HasTaken self.old extents → IfOk result (λ e. HasTaken self.new (e ∷ extents)) }
-        ensures full { (extents : List PlainExtent) → HasTaken self.old extents → IsErrOf result TakeError.Full → (first : ℕ) → IsFreeRun extents (pages_for bytes) first → ⊥ }
+        ensures full { (extents : List PlainExtent) → HasTaken self.old extents → IsErrOf result TakeError.Full → (first : ℕ)
+            → IsFreeRun extents (pages_for bytes) first → ⊥ }
         ensures same { OnErr result (self.new ≡ self.old) }
     {
         if bytes == 0 {
@@ -103,7 +105,8 @@ impl Pages {
     /// behind it.
     pub fn take_at(&mut self, extent: Extent) -> Result<(), AtError>
         ensures taken { OnOk result ((extents : List PlainExtent) → HasTaken self.old extents → HasTaken self.new (extent ∷ extents)) }
-        ensures refused { IsErrOf result AtError.Taken → (extents : List PlainExtent) → HasTaken self.old extents → (p : ℕ) × (IsPageOf extent p × IsTaken extents p) }
+        ensures refused { IsErrOf result AtError.Taken → (extents : List PlainExtent) → HasTaken self.old extents
+            → (p : ℕ) × (IsPageOf extent p × IsTaken extents p) }
         ensures same { OnErr result (self.new ≡ self.old) }
     {
         if !self.claim(extent)? {
@@ -115,7 +118,8 @@ impl Pages {
     // Takes an extent whose pages are free, and makes the room for giving them back.
     pub(crate) fn hold(&mut self, extent: Extent) -> Result<(), AllocError>
         requires { 1 ≤ extent.bytes }
-        ensures held { OnOk result ((extents : List PlainExtent) → HasTaken self.old extents → AreFree self.old.edges extent.first (pages_for extent.bytes) → HasTaken self.new (extent ∷ extents)) }
+        ensures held { OnOk result ((extents : List PlainExtent) → HasTaken self.old extents
+            → AreFree self.old.edges extent.first (pages_for extent.bytes) → HasTaken self.new (extent ∷ extents)) }
         ensures same { OnErr result (self.new ≡ self.old) }
     {
         self.edges.reserve(2 * self.taken + 4)?;
@@ -128,7 +132,8 @@ impl Pages {
     /// free runs, and a move of those behind.
     pub fn give_back(&mut self, extent: Extent)
         requires taken { (before : List PlainExtent) × ((after : List PlainExtent) × HasTaken self.old (before ++ extent ∷ after)) }
-        ensures freed { (before after : List PlainExtent) → HasTaken self.old (before ++ extent ∷ after) → HasTaken self.new (before ++ after) }
+        ensures freed { (before after : List PlainExtent) → HasTaken self.old (before ++ extent ∷ after)
+            → HasTaken self.new (before ++ after) }
     {
         if extent.bytes == 0 {
             return;

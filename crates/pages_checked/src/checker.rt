@@ -80,7 +80,8 @@ impl Checker {
 
     /// Whether they were put away under a page, which so is used last.
     fn knows(&mut self, page: u32, layout: Layout, digest: &[u8; 32], bytes: &[u8]) -> bool
-        ensures { IsTrue result → IfSome (lookup (nat_eq page) self.new.known) (λ k. (k.layout ≡ layout) × (k.digest ≡ digest.now) × (k.bytes ≡ bytes.now)) }
+        ensures { IsTrue result → IfSome (lookup (nat_eq page) self.new.known) (λ k. (k.layout ≡ layout) × (k.digest ≡ digest.now)
+            × (k.bytes ≡ bytes.now)) }
     {
         self.known.promote(page);
         match self.known.find(page) {

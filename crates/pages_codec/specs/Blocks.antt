@@ -164,7 +164,8 @@ body_at before bytes head rest = do
 unfoldable pub block_at : Option Fields → List ℕ → Result (List Fields × List ℕ) ℕ
 block_at before bytes =
     if nat_lt (length bytes) 15 then Err (length bytes) else
-    if may_lead before (head_front bytes).0 (length (head_front bytes).1) then body_at before bytes (head_front bytes).0 (head_front bytes).1
+    if may_lead before (head_front bytes).0 (length (head_front bytes).1) then body_at before bytes (head_front bytes).0
+    (head_front bytes).1
     else Err (length bytes)
 
 -- the list that all the bytes spell

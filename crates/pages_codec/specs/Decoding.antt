@@ -15,7 +15,8 @@ OrMemory P Memory = Unit {0}
 OrMemory P (Form at) = P at
 
 -- what is read from bytes, by how a list is spelled and by a reading that names a fault
-pub record Decodes (spelling : List Posting → List ℕ) (reading : List ℕ → Result (List Fields) ℕ) (bytes : List ℕ) (result : Result (Vec Posting Global) ListError) : Type 0 where
+pub record Decodes (spelling : List Posting → List ℕ) (reading : List ℕ → Result (List Fields) ℕ) (bytes : List ℕ)
+    (result : Result (Vec Posting Global) ListError) : Type 0 where
   -- what is read is a list, and is spelled so
   pub found : IfOk result (λ v. IsList v.items × (bytes ≡ spelling v.items))
   -- the list that is spelled so is what is read

@@ -13,7 +13,10 @@ may_frame head behind = nat_le 1 head.count && nat_le head.count 128 && nat_le h
 unfoldable pub front_of : List ℕ → Option (Head × List ℕ)
 front_of bytes =
     if nat_lt (length bytes) 15 then None else
-    if may_frame (head_front bytes).0 (length (head_front bytes).1) then Some ((head_front bytes).0, drop (head_front bytes).0.size (head_front bytes).1)
+    if may_frame (head_front bytes).0 (length (head_front bytes).1) then Some (
+      (head_front bytes).0,
+      drop (head_front bytes).0.size (head_front bytes).1,
+    )
     else None
 
 -- the same as a front of headers; its first byte is the fault where there is none

@@ -15,9 +15,11 @@ pub record IsLayout (spelling : List Posting → List ℕ) (reading : List ℕ �
   -- what a list is spelled by is read as that list
   pub read : (list : List Posting) → IsList list → reading (spelling list) ≡ Ok (map fields list)
   -- what is read is a list, and spelled by exactly those bytes
-  pub spelled : (bytes : List ℕ) (read : List Fields) → All (λ b. b < 256) bytes → reading bytes ≡ Ok read → (list : List Posting) × IsList list × (map fields list ≡ read) × (bytes ≡ spelling list)
+  pub spelled : (bytes : List ℕ) (read : List Fields) → All (λ b. b < 256) bytes → reading bytes ≡ Ok read
+      → (list : List Posting) × IsList list × (map fields list ≡ read) × (bytes ≡ spelling list)
   -- bytes that spell no list have a fault, one, which is in them or at their end
-  pub a_fault : (bytes : List ℕ) → All (λ b. b < 256) bytes → ((list : List Posting) → IsList list → bytes ≢ spelling list) → (at : ℕ) × IsFaultOf reading bytes at
+  pub a_fault : (bytes : List ℕ) → All (λ b. b < 256) bytes → ((list : List Posting) → IsList list → bytes ≢ spelling list)
+      → (at : ℕ) × IsFaultOf reading bytes at
   pub one_fault : (bytes : List ℕ) (a b : ℕ) → IsFaultOf reading bytes a → IsFaultOf reading bytes b → a ≡ b
   pub in_bytes : (bytes : List ℕ) (at : ℕ) → IsFaultOf reading bytes at → at ≤ length bytes
   -- and bytes that have one spell no list

@@ -89,7 +89,8 @@ fn others_at(
     last: Posting,
     bytes: &[u8],
 ) -> Result<(Vec<Posting>, &[u8]), ReadError>
-    ensures { Gives (λ x. (map fields x.0.items, x.1.now)) result (with_front (map fields list.items) (others_at count (fields last) bytes.now)) }
+    ensures { Gives (λ x. (map fields x.0.items, x.1.now)) result
+        (with_front (map fields list.items) (others_at count (fields last) bytes.now)) }
 {
     let mut list = list;
     let mut last = last;

@@ -33,7 +33,8 @@ fn base_behind(last: Posting, step: u32) -> u64
 /// Adds the postings behind another.
 fn put_others(bytes: &mut Vec<u8>, last: Posting, list: &[Posting]) -> Result<(), AllocError>
     requires { IsList (last ∷ list.now) }
-    ensures { OnOk result (bytes.new.items ≡ bytes.old.items ++ flat_map (number_bytes 6) (other_numbers (fields last) (map fields list.now))) }
+    ensures { OnOk result (bytes.new.items ≡ bytes.old.items
+        ++ flat_map (number_bytes 6) (other_numbers (fields last) (map fields list.now))) }
 {
     let mut last = last;
     let mut rest = list;

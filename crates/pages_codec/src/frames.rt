@@ -65,11 +65,15 @@ impl Frames {
         // What is read is a list, and its block is spelled so.
         ensures found { IfOk result (λ v. IsList v.items × (block_bytes self.now block ≡ block_spelling v.items)) }
         // The list that is spelled so is what is read.
-        ensures only { (list : List Posting) → IsList list → block_bytes self.now block ≡ block_spelling list → IfOk result (λ v. v.items ≡ list) }
+        ensures only { (list : List Posting) → IsList list → block_bytes self.now block ≡ block_spelling list
+            → IfOk result (λ v. v.items ≡ list) }
         // Where a place is named, the block spells no list.
-        ensures nothing { IfErr result (OrMemory (λ _. (list : List Posting) → IsList list → block_bytes self.now block ≢ block_spelling list)) }
+        ensures nothing { IfErr result
+            (OrMemory (λ _. (list : List Posting) → IsList list → block_bytes self.now block ≢ block_spelling list)) }
         // Which place is named: that of the block's fault, counted from the first of all bytes.
-        ensures fault { IfErr result (OrMemory (λ at. (inner : ℕ) × (at ≡ start_of self.now.heads block + inner) × IsFaultOf blocks_at (block_bytes self.now block) inner)) }
+        ensures fault { IfErr result
+            (OrMemory (λ at. (inner : ℕ) × (at ≡ start_of self.now.heads block + inner)
+            × IsFaultOf blocks_at (block_bytes self.now block) inner)) }
     {
         let start = self.starts[block];
         match decode_blocks(alloc, self.block(block)) {

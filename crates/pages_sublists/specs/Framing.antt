@@ -33,7 +33,8 @@ pub record IsOpened (f : FramesState) (block a b h : ℕ) (list : List Posting) 
 -- why a block isn't opened: it spells no list, or else the first posting that doesn't belong
 abbrev pub IsUnopened : FramesState → ℕ → (a b h : ℕ) → Why → Type 0
 IsUnopened f block a b h Form = (list : List Posting) → IsList list → block_bytes f block ≢ block_spelling list
-IsUnopened f block a b h (Astray p) = (list : List Posting) × IsList list × (block_bytes f block ≡ block_spelling list) × IsFirstAstray a b h list p
+IsUnopened f block a b h (Astray p) = (list : List Posting) × IsList list × (block_bytes f block ≡ block_spelling list)
+    × IsFirstAstray a b h list p
 IsUnopened f block a b h (Digest kept got) = ⊥
 IsUnopened f block a b h (Clash one other) = ⊥
 IsUnopened f block a b h Bare = ⊥

@@ -72,4 +72,5 @@ Gathers layout h pages (c ∷ segments) union read outcome =
 -- how many postings of a list the segments that overlap the window [a, b) have, added up
 abbrev pub stored_size : (a b h : ℕ) → List Posting → List ℕ → ℕ
 stored_size a b h list [] = 0
-stored_size a b h list (f ∷ cuts) = (if nat_lt f b && nat_lt a (next_cut cuts h) then size f (next_cut cuts h) list else 0) + stored_size a b h list cuts
+stored_size a b h list (f ∷ cuts) = (if nat_lt f b && nat_lt a (next_cut cuts h) then size f (next_cut cuts h) list else 0) + stored_size a
+    b h list cuts

@@ -12,16 +12,19 @@ use Rattle.pages_sublists.specs.declared.why.Why.TheVariants.{Clash}
 
 -- Of the causes against a fetch one holds at most.
 abbrev pub OneCause : Type 0
-OneCause = (layout : Layout) (digest : List ℕ) (f g h : ℕ) (bytes : List ℕ) (a b : Why) → Explains layout digest f g h bytes a → Explains layout digest f g h bytes b → a ≡ b
+OneCause = (layout : Layout) (digest : List ℕ) (f g h : ℕ) (bytes : List ℕ) (a b : Why) → Explains layout digest f g h bytes a
+    → Explains layout digest f g h bytes b → a ≡ b
 
 -- There is none against what is fetched.
 abbrev pub NoCauseAgainstFetched : Type 0
 NoCauseAgainstFetched =
-    (layout : Layout) (digest : List ℕ) (f g h : ℕ) (bytes : List ℕ) (list : List Posting) (why : Why) → IsFetched layout digest f g h bytes list → ¬ (Explains layout digest f g h bytes why)
+    (layout : Layout) (digest : List ℕ) (f g h : ℕ) (bytes : List ℕ) (list : List Posting) (why : Why)
+    → IsFetched layout digest f g h bytes list → ¬ (Explains layout digest f g h bytes why)
 
 -- One list is fetched at most.
 abbrev pub OneFetched : Type 0
-OneFetched = (layout : Layout) (digest : List ℕ) (f g h : ℕ) (bytes : List ℕ) (a b : List Posting) → IsFetched layout digest f g h bytes a → IsFetched layout digest f g h bytes b → a ≡ b
+OneFetched = (layout : Layout) (digest : List ℕ) (f g h : ℕ) (bytes : List ℕ) (a b : List Posting) → IsFetched layout digest f g h bytes a
+    → IsFetched layout digest f g h bytes b → a ≡ b
 
 -- both outcomes are clashes at this page
 pub record AreClashes (page : ℕ) (a b : ListOrDamage) : Type 0 where
@@ -36,7 +39,8 @@ pub record AreClashes (page : ℕ) (a b : ListOrDamage) : Type 0 where
 abbrev pub OneGathering : Type 0
 OneGathering =
     (layout : Layout) (h : ℕ) (pages : List ℕ) (segments : List Chosen) (union : List Posting) (read : ℕ) (a b : ListOrDamage)
-    → Gathers layout h pages segments union read a → Gathers layout h pages segments union read b → (a ≡ b) ⊎ ((page : ℕ) × AreClashes page a b)
+    → Gathers layout h pages segments union read a → Gathers layout h pages segments union read b → (a ≡ b)
+    ⊎ ((page : ℕ) × AreClashes page a b)
 
 -- what is gathered is a list that says of each time in the window what the other list says, and as many postings are read as its segments have
 pub record IsGathered (list : List Posting) (cuts : List ℕ) (a b h : ℕ) (outcome : ListOrDamage) : Type 0 where
@@ -47,5 +51,7 @@ pub record IsGathered (list : List Posting) (cuts : List ℕ) (a b h : ℕ) (out
 -- Where the places of a list's segments hold its sublists, nothing is damaged, and what is gathered is of the list.
 abbrev pub HeldIsGathered : Type 0
 HeldIsGathered =
-    (layout : Layout) (list : List Posting) (pages : List ℕ) (cuts : List ℕ) (h : ℕ) (places : List Place) (a b : ℕ) (outcome : ListOrDamage) → AreCutsOf list cuts h
-    → EachSegment (HoldsSublist layout list pages) cuts h places → Gathers layout h pages (chosen a b h true cuts places) [] 0 outcome → IsGathered list cuts a b h outcome
+    (layout : Layout) (list : List Posting) (pages : List ℕ) (cuts : List ℕ) (h : ℕ) (places : List Place) (a b : ℕ)
+    (outcome : ListOrDamage) → AreCutsOf list cuts h
+    → EachSegment (HoldsSublist layout list pages) cuts h places → Gathers layout h pages (chosen a b h true cuts places) [] 0 outcome
+    → IsGathered list cuts a b h outcome

@@ -86,10 +86,12 @@ IsForSublist layout list f g place = IsFor place (spelling_in layout (sublist f 
 -- Places that are for the spellings, one by one, are for the segments' sublists.
 abbrev pub PlacesAreForSublists : Type 0
 PlacesAreForSublists =
-    (layout : Layout) (list : List Posting) (cuts : List ℕ) (h : ℕ) (places : List Place) → AllZip IsFor places (spellings layout list cuts h) → EachSegment (IsForSublist layout list) cuts h places
+    (layout : Layout) (list : List Posting) (cuts : List ℕ) (h : ℕ) (places : List Place)
+    → AllZip IsFor places (spellings layout list cuts h) → EachSegment (IsForSublist layout list) cuts h places
 
 -- Pages that hold the pieces of a list's segments hold their sublists.
 abbrev pub PiecesHoldSublists : Type 0
 PiecesHoldSublists =
-    (layout : Layout) (list : List Posting) (cuts : List ℕ) (h : ℕ) (places : List Place) (pages : List ℕ) → AllZip IsFor places (spellings layout list cuts h)
+    (layout : Layout) (list : List Posting) (cuts : List ℕ) (h : ℕ) (places : List Place) (pages : List ℕ)
+    → AllZip IsFor places (spellings layout list cuts h)
     → All (HoldsPiece pages) (pieces_of places (spellings layout list cuts h)) → EachSegment (HoldsSublist layout list pages) cuts h places

@@ -49,20 +49,27 @@ pub(crate) fn fetch_one<D: Disk>(
     requires inside { place.now.extent.first * 4096 + place.now.extent.bytes ≤ (D.disk disk.old).reach.pages }
     ensures only { D.Disk.only disk.old disk.new }
     ensures failed { IfErr result (IfFailed (Rose (D.disk disk.old).faults (D.disk disk.new).faults)) }
-    ensures same { D.disk disk.new ≡ record (D.disk disk.old) { faults = (D.disk disk.new).faults; bytes_read = (D.disk disk.new).bytes_read } }
-    ensures asked { D.disk_tells → StandsFor cache.old (D.disk disk.old).holds.pages → OnOk result (cache.new ≡ after_asking_all (pieces_at (D.disk disk.old).holds.pages place.now.extent) cache.old) }
+    ensures same { D.disk disk.new ≡ record (D.disk disk.old) {
+      faults = (D.disk disk.new).faults;
+      bytes_read = (D.disk disk.new).bytes_read;
+    } }
+    ensures asked { D.disk_tells → StandsFor cache.old (D.disk disk.old).holds.pages
+        → OnOk result (cache.new ≡ after_asking_all (pieces_at (D.disk disk.old).holds.pages place.now.extent) cache.old) }
     ensures count { D.disk_tells → StandsFor cache.old (D.disk disk.old).holds.pages
         → OnOk result ((D.disk disk.new).bytes_read ≡ replaced (D.disk disk.old).bytes_read Area.Pages ((D.disk disk.old).bytes_read.pages
         + missed_by_all (pieces_at (D.disk disk.old).holds.pages place.now.extent) cache.old)) }
     ensures stays { D.disk_tells → StandsFor cache.old (D.disk disk.old).holds.pages → StandsFor cache.new (D.disk disk.new).holds.pages }
-    ensures lie { (taken : List Extent) → ((p : ℕ) → IsPageOf place.now.extent p → IsTaken taken p) → LieIn taken cache.old → LieIn taken cache.new }
+    ensures lie { (taken : List Extent) → ((p : ℕ) → IsPageOf place.now.extent p → IsTaken taken p) → LieIn taken cache.old
+        → LieIn taken cache.new }
     ensures list { IfOk result (λ v. IsList v.items) }
     ensures short { IfOk result (λ v. length v.items ≤ place.now.extent.bytes) }
     ensures some { IfOk result (λ v. ¬ (IsBare segment.first v.items)) }
     ensures found { D.disk_tells → StandsFor cache.old (D.disk disk.old).holds.pages
-        → IfOk result (λ v. IsFetched layout place.now.digest segment.bounds.from segment.bounds.to segment.bounds.horizon (bytes_in place.now.extent (D.disk disk.old).holds.pages) v.items) }
+        → IfOk result (λ v. IsFetched layout place.now.digest segment.bounds.from segment.bounds.to segment.bounds.horizon
+        (bytes_in place.now.extent (D.disk disk.old).holds.pages) v.items) }
     ensures damaged { D.disk_tells → StandsFor cache.old (D.disk disk.old).holds.pages
-        → IfErr result (IfDamaged (λ d. (d.page ≡ place.now.extent.first) × RefusesAlone layout segment.bounds.horizon (bytes_in place.now.extent (D.disk disk.old).holds.pages)
+        → IfErr result (IfDamaged (λ d. (d.page ≡ place.now.extent.first)
+        × RefusesAlone layout segment.bounds.horizon (bytes_in place.now.extent (D.disk disk.old).holds.pages)
         (record { from = segment.bounds.from; to = segment.bounds.to; place = place.now; first = segment.first }) d.why)) }
 {
     let mut bytes = match vec![in alloc; 0; place.extent.bytes as usize] {
@@ -87,7 +94,8 @@ fn sifted(
     bytes: &[u8],
     segment: Segment,
 ) -> Result<Vec<Posting>, FetchError>
-    ensures found { IfOk result (λ v. IsFetched layout place.now.digest segment.bounds.from segment.bounds.to segment.bounds.horizon bytes.now v.items) }
+    ensures found { IfOk result
+        (λ v. IsFetched layout place.now.digest segment.bounds.from segment.bounds.to segment.bounds.horizon bytes.now v.items) }
     ensures some { IfOk result (λ v. ¬ (IsBare segment.first v.items)) }
     ensures failed { IfErr result (IfFailed ⊥) }
     ensures damaged { IfErr result (IfDamaged (λ d. (d.page ≡ place.now.extent.first) × RefusesAlone layout segment.bounds.horizon bytes.now
@@ -121,7 +129,8 @@ fn sifted(
 
 /// The first posting that doesn't belong to a segment.
 pub(crate) fn first_astray(list: &[Posting], bounds: Bounds) -> Option<Posting>
-    ensures { MatchOption result (All (λ q. belongs bounds.from bounds.to bounds.horizon q ≡ true) list.now) (λ p. IsFirstAstray bounds.from bounds.to bounds.horizon list.now p) }
+    ensures { MatchOption result (All (λ q. belongs bounds.from bounds.to bounds.horizon q ≡ true) list.now)
+        (λ p. IsFirstAstray bounds.from bounds.to bounds.horizon list.now p) }
 {
     for posting in list {
         if !belongs_to(posting, bounds) {
@@ -135,9 +144,7 @@ pub(crate) fn first_astray(list: &[Posting], bounds: Bounds) -> Option<Posting>
 fn belongs_to(posting: &Posting, bounds: Bounds) -> bool
     ensures { result ≡ belongs bounds.from bounds.to bounds.horizon posting.now }
 {
-    posting.span.from < bounds.to
-        && bounds.from < posting.span.to
-        && posting.span.to <= bounds.horizon
+    posting.span.meets(bounds.from, bounds.to) && posting.span.to <= bounds.horizon
 }
 
 /// Whether it is the first segment of all, and without a posting.

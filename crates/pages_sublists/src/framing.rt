@@ -54,16 +54,23 @@ pub(crate) fn frames_of<D: Disk>(
     requires inside { place.now.extent.first * 4096 + place.now.extent.bytes ≤ (D.disk disk.old).reach.pages }
     ensures only { D.Disk.only disk.old disk.new }
     ensures failed { IfErr result (IfFailed (Rose (D.disk disk.old).faults (D.disk disk.new).faults)) }
-    ensures same { D.disk disk.new ≡ record (D.disk disk.old) { faults = (D.disk disk.new).faults; bytes_read = (D.disk disk.new).bytes_read } }
-    ensures asked { D.disk_tells → StandsFor cache.old (D.disk disk.old).holds.pages → OnOk result (cache.new ≡ after_asking_all (pieces_at (D.disk disk.old).holds.pages place.now.extent) cache.old) }
+    ensures same { D.disk disk.new ≡ record (D.disk disk.old) {
+      faults = (D.disk disk.new).faults;
+      bytes_read = (D.disk disk.new).bytes_read;
+    } }
+    ensures asked { D.disk_tells → StandsFor cache.old (D.disk disk.old).holds.pages
+        → OnOk result (cache.new ≡ after_asking_all (pieces_at (D.disk disk.old).holds.pages place.now.extent) cache.old) }
     ensures count { D.disk_tells → StandsFor cache.old (D.disk disk.old).holds.pages
         → OnOk result ((D.disk disk.new).bytes_read ≡ replaced (D.disk disk.old).bytes_read Area.Pages ((D.disk disk.old).bytes_read.pages
         + missed_by_all (pieces_at (D.disk disk.old).holds.pages place.now.extent) cache.old)) }
     ensures stays { D.disk_tells → StandsFor cache.old (D.disk disk.old).holds.pages → StandsFor cache.new (D.disk disk.new).holds.pages }
-    ensures lie { (taken : List PlainExtent) → ((p : ℕ) → IsPageOf place.now.extent p → IsTaken taken p) → LieIn taken cache.old → LieIn taken cache.new }
-    ensures found { D.disk_tells → StandsFor cache.old (D.disk disk.old).holds.pages → IfOk result (λ f. IsFramed place.now.digest (bytes_in place.now.extent (D.disk disk.old).holds.pages) f) }
+    ensures lie { (taken : List PlainExtent) → ((p : ℕ) → IsPageOf place.now.extent p → IsTaken taken p) → LieIn taken cache.old
+        → LieIn taken cache.new }
+    ensures found { D.disk_tells → StandsFor cache.old (D.disk disk.old).holds.pages
+        → IfOk result (λ f. IsFramed place.now.digest (bytes_in place.now.extent (D.disk disk.old).holds.pages) f) }
     ensures damaged { D.disk_tells → StandsFor cache.old (D.disk disk.old).holds.pages
-        → IfErr result (IfDamaged (λ d. (d.page ≡ place.now.extent.first) × IsUnframed place.now.digest (bytes_in place.now.extent (D.disk disk.old).holds.pages) d.why)) }
+        → IfErr result (IfDamaged (λ d. (d.page ≡ place.now.extent.first)
+        × IsUnframed place.now.digest (bytes_in place.now.extent (D.disk disk.old).holds.pages) d.why)) }
 {
     let mut bytes = match vec![in alloc; 0; place.extent.bytes as usize] {
         Ok(bytes) => bytes,
@@ -90,7 +97,8 @@ pub fn opened(
     requires { block < length frames.now.heads }
     ensures found { IfOk result (λ v. IsOpened frames.now block span.from span.to horizon.seconds v.items) }
     ensures failed { IfErr result (IfFailed ⊥) }
-    ensures damaged { IfErr result (IfDamaged (λ d. (d.page ≡ page) × IsUnopened frames.now block span.from span.to horizon.seconds d.why)) }
+    ensures damaged { IfErr result
+        (IfDamaged (λ d. (d.page ≡ page) × IsUnopened frames.now block span.from span.to horizon.seconds d.why)) }
 {
     let bounds = Bounds {
         from: span.from,

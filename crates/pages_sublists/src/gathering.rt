@@ -67,25 +67,37 @@ impl Sublists {
         requires few { sum_by (λ (p : PlainPlace). p.extent.bytes) places.now ≤ 2 ^ 60 }
         ensures only { D.Disk.only disk.old disk.new }
         ensures failed { IfErr result (IfFailed (Rose (D.disk disk.old).faults (D.disk disk.new).faults)) }
-        ensures same { D.disk disk.new ≡ record (D.disk disk.old) { faults = (D.disk disk.new).faults; bytes_read = (D.disk disk.new).bytes_read } }
+        ensures same { D.disk disk.new ≡ record (D.disk disk.old) {
+          faults = (D.disk disk.new).faults;
+          bytes_read = (D.disk disk.new).bytes_read;
+        } }
         ensures list { IfOk result (λ g. IsList g.list.items) }
         ensures pages { self.new.pages ≡ self.old.pages }
         // The pages of the segments that overlap the window were asked for, in order.
         ensures asked { D.disk_tells → StandsFor self.old.cache (D.disk disk.old).holds.pages
-            → OnOk result (self.new.cache ≡ after_asking_all (pieces_of_all (D.disk disk.old).holds.pages (chosen span.from span.to horizon.seconds true (seconds cuts.now) places.now)) self.old.cache) }
+            → OnOk result (self.new.cache
+            ≡ after_asking_all (pieces_of_all (D.disk disk.old).holds.pages
+            (chosen span.from span.to horizon.seconds true (seconds cuts.now) places.now)) self.old.cache) }
         // Exactly what was missed of them was read.
         ensures count { D.disk_tells → StandsFor self.old.cache (D.disk disk.old).holds.pages
-            → OnOk result ((D.disk disk.new).bytes_read ≡ replaced (D.disk disk.old).bytes_read Area.Pages ((D.disk disk.old).bytes_read.pages
-            + missed_by_all (pieces_of_all (D.disk disk.old).holds.pages (chosen span.from span.to horizon.seconds true (seconds cuts.now) places.now)) self.old.cache)) }
+            → OnOk result ((D.disk disk.new).bytes_read ≡ replaced (D.disk disk.old).bytes_read Area.Pages
+            ((D.disk disk.old).bytes_read.pages
+            + missed_by_all (pieces_of_all (D.disk disk.old).holds.pages
+            (chosen span.from span.to horizon.seconds true (seconds cuts.now) places.now)) self.old.cache)) }
         // The list and the number read are what the bytes that reads give lead to.
         ensures gathered { D.disk_tells → StandsFor self.old.cache (D.disk disk.old).holds.pages
-            → IfOk result (λ g. Gathers layout horizon.seconds (D.disk disk.old).holds.pages (chosen span.from span.to horizon.seconds true (seconds cuts.now) places.now) [] 0 (Ok (g.list.items, g.read))) }
+            → IfOk result (λ g. Gathers layout horizon.seconds (D.disk disk.old).holds.pages
+            (chosen span.from span.to horizon.seconds true (seconds cuts.now) places.now) [] 0 (Ok (g.list.items, g.read))) }
         // And so is the damage.
         ensures damaged { D.disk_tells → StandsFor self.old.cache (D.disk disk.old).holds.pages
-            → IfErr result (IfDamaged (λ d. Gathers layout horizon.seconds (D.disk disk.old).holds.pages (chosen span.from span.to horizon.seconds true (seconds cuts.now) places.now) [] 0 (Err d))) }
-        ensures stays { D.disk_tells → StandsFor self.old.cache (D.disk disk.old).holds.pages → StandsFor self.new.cache (D.disk disk.new).holds.pages }
+            → IfErr result (IfDamaged
+            (λ d. Gathers layout horizon.seconds (D.disk disk.old).holds.pages
+            (chosen span.from span.to horizon.seconds true (seconds cuts.now) places.now) [] 0 (Err d))) }
+        ensures stays { D.disk_tells → StandsFor self.old.cache (D.disk disk.old).holds.pages
+            → StandsFor self.new.cache (D.disk disk.new).holds.pages }
         // Whatever is answered, what is kept lies in the extents that are taken, where the places do.
-        ensures lie { (taken : List Extent) → ((p : ℕ) → IsTaken (extents places.now) p → IsTaken taken p) → LieIn taken self.old.cache → LieIn taken self.new.cache }
+        ensures lie { (taken : List Extent) → ((p : ℕ) → IsTaken (extents places.now) p → IsTaken taken p) → LieIn taken self.old.cache
+            → LieIn taken self.new.cache }
     {
         let mut lists = Vec::new(alloc);
         let placed = Placed {
@@ -133,20 +145,32 @@ fn fetch_all<D: Disk>(
     requires few { sum_by (λ (p : PlainPlace). p.extent.bytes) placed.now.places.now ≤ 2 ^ 60 }
     ensures only { D.Disk.only disk.old disk.new }
     ensures failed { IfErr result (IfFailed (Rose (D.disk disk.old).faults (D.disk disk.new).faults)) }
-    ensures same { D.disk disk.new ≡ record (D.disk disk.old) { faults = (D.disk disk.new).faults; bytes_read = (D.disk disk.new).bytes_read } }
+    ensures same { D.disk disk.new ≡ record (D.disk disk.old) {
+      faults = (D.disk disk.new).faults;
+      bytes_read = (D.disk disk.new).bytes_read;
+    } }
     ensures asked { D.disk_tells → StandsFor cache.old (D.disk disk.old).holds.pages
-        → OnOk result (cache.new ≡ after_asking_all (pieces_of_all (D.disk disk.old).holds.pages (chosen span.from span.to placed.now.horizon.seconds true (seconds placed.now.cuts.now) placed.now.places.now)) cache.old) }
+        → OnOk result (cache.new
+        ≡ after_asking_all (pieces_of_all (D.disk disk.old).holds.pages
+        (chosen span.from span.to placed.now.horizon.seconds true (seconds placed.now.cuts.now) placed.now.places.now)) cache.old) }
     ensures count { D.disk_tells → StandsFor cache.old (D.disk disk.old).holds.pages
         → OnOk result ((D.disk disk.new).bytes_read ≡ replaced (D.disk disk.old).bytes_read Area.Pages ((D.disk disk.old).bytes_read.pages
-        + missed_by_all (pieces_of_all (D.disk disk.old).holds.pages (chosen span.from span.to placed.now.horizon.seconds true (seconds placed.now.cuts.now) placed.now.places.now)) cache.old)) }
+        + missed_by_all (pieces_of_all (D.disk disk.old).holds.pages
+        (chosen span.from span.to placed.now.horizon.seconds true (seconds placed.now.cuts.now) placed.now.places.now)) cache.old)) }
     ensures stays { D.disk_tells → StandsFor cache.old (D.disk disk.old).holds.pages → StandsFor cache.new (D.disk disk.new).holds.pages }
-    ensures lie { (taken : List Extent) → ((p : ℕ) → IsTaken (extents placed.now.places.now) p → IsTaken taken p) → LieIn taken cache.old → LieIn taken cache.new }
+    ensures lie { (taken : List Extent) → ((p : ℕ) → IsTaken (extents placed.now.places.now) p → IsTaken taken p) → LieIn taken cache.old
+        → LieIn taken cache.new }
     ensures lists { All (λ (l : Paged). IsList l.1) lists.new.items }
     ensures read { IfOk result (λ n. n ≡ size_of_all lists.new.items) }
     ensures fetched { D.disk_tells → StandsFor cache.old (D.disk disk.old).holds.pages
-        → OnOk result (AreFetched placed.now.layout placed.now.horizon.seconds (D.disk disk.old).holds.pages (chosen span.from span.to placed.now.horizon.seconds true (seconds placed.now.cuts.now) placed.now.places.now) lists.new.items []) }
+        → OnOk result (AreFetched placed.now.layout placed.now.horizon.seconds (D.disk disk.old).holds.pages
+        (chosen span.from span.to placed.now.horizon.seconds true (seconds placed.now.cuts.now) placed.now.places.now) lists.new.items
+        []) }
     ensures stopped { D.disk_tells → StandsFor cache.old (D.disk disk.old).holds.pages
-        → IfErr result (λ e. (rest : List Chosen) × (AreFetched placed.now.layout placed.now.horizon.seconds (D.disk disk.old).holds.pages (chosen span.from span.to placed.now.horizon.seconds true (seconds placed.now.cuts.now) placed.now.places.now) lists.new.items rest
+        → IfErr result (λ e. (rest : List Chosen)
+        × (AreFetched placed.now.layout placed.now.horizon.seconds (D.disk disk.old).holds.pages
+        (chosen span.from span.to placed.now.horizon.seconds true (seconds placed.now.cuts.now) placed.now.places.now) lists.new.items
+        rest
         × IfDamaged (StopsAt placed.now.layout placed.now.horizon.seconds (D.disk disk.old).holds.pages rest) e)) }
 {
     let mut read = 0;

@@ -157,7 +157,9 @@ fn union_of(
     requires list { IsList list.now }
     ensures joined { IfOk result (λ v. IsUnion union.now list.now v.items) }
     ensures failed { IfErr result (IfFailed ⊥) }
-    ensures damaged { IfErr result (IfDamaged (λ d. (d.page ≡ page) × ((one : PlainPosting) × ((other : PlainPosting) × (IsClash union.now list.now one other × (d.why ≡ Clash one other)))))) }
+    ensures damaged { IfErr result
+        (IfDamaged (λ d. (d.page ≡ page)
+        × ((one : PlainPosting) × ((other : PlainPosting) × (IsClash union.now list.now one other × (d.why ≡ Clash one other)))))) }
 {
     match merge_distinct(alloc, union, list) {
         Ok(both) => Ok(both),

@@ -44,9 +44,11 @@ impl Sublists {
         // Whatever is answered, a stop leaves an image from before but for these pages.
         ensures images { D.disk_tells → ChangesOnly (page_ranges (some_pages from pages prepared.now)) (D.disk disk.old) (D.disk disk.new) }
         // After Ok they hold their bytes, and all else reads as it did.
-        ensures wrote { D.disk_tells → OnOk result (WrotePages (some_pages from pages prepared.now) (D.disk disk.old).holds (D.disk disk.new).holds) }
+        ensures wrote { D.disk_tells
+            → OnOk result (WrotePages (some_pages from pages prepared.now) (D.disk disk.old).holds (D.disk disk.new).holds) }
         // So what is kept, and the pages in front where they were written, go on being as reads give them, and these are.
-        ensures counted { D.disk_tells → StandsFor (self.now.cache ++ take from (pages_of (pieces prepared.now))) (D.disk disk.old).holds.pages →
+        ensures counted { D.disk_tells
+            → StandsFor (self.now.cache ++ take from (pages_of (pieces prepared.now))) (D.disk disk.old).holds.pages →
             OnOk result (StandsFor (self.now.cache ++ take (from + pages) (pages_of (pieces prepared.now))) (D.disk disk.new).holds.pages) }
     {
         write_pages(
@@ -87,10 +89,15 @@ fn write_pages<D: Disk>(
     ensures cause { HasCause (D.disk disk.old).faults (D.disk disk.new).faults result }
     ensures count { IfOk result (λ n. n ≡ length (take most (drop from (pages_of (pieces_of places.now spellings.now))))) }
     ensures journal { (D.disk disk.new).reach.journal ≡ (D.disk disk.old).reach.journal }
-    ensures inside { OnOk result (ReachPages (D.disk disk.new).reach.pages (take most (drop from (pages_of (pieces_of places.now spellings.now))))) }
+    ensures inside { OnOk result
+        (ReachPages (D.disk disk.new).reach.pages (take most (drop from (pages_of (pieces_of places.now spellings.now))))) }
     ensures read { D.disk_tells → (D.disk disk.new).bytes_read ≡ (D.disk disk.old).bytes_read }
-    ensures images { D.disk_tells → ChangesOnly (page_ranges (take most (drop from (pages_of (pieces_of places.now spellings.now))))) (D.disk disk.old) (D.disk disk.new) }
-    ensures wrote { D.disk_tells → OnOk result (WrotePages (take most (drop from (pages_of (pieces_of places.now spellings.now)))) (D.disk disk.old).holds (D.disk disk.new).holds) }
+    ensures images { D.disk_tells
+        → ChangesOnly (page_ranges (take most (drop from (pages_of (pieces_of places.now spellings.now))))) (D.disk disk.old)
+        (D.disk disk.new) }
+    ensures wrote { D.disk_tells
+        → OnOk result (WrotePages (take most (drop from (pages_of (pieces_of places.now spellings.now)))) (D.disk disk.old).holds
+        (D.disk disk.new).holds) }
 {
     let mut skip = from;
     let mut left = most;
@@ -122,8 +129,11 @@ fn write_part<D: Disk>(
     ensures journal { (D.disk disk.new).reach.journal ≡ (D.disk disk.old).reach.journal }
     ensures inside { OnOk result (ReachPages (D.disk disk.new).reach.pages (take most (drop from (page_pieces extent.first bytes.now)))) }
     ensures read { D.disk_tells → (D.disk disk.new).bytes_read ≡ (D.disk disk.old).bytes_read }
-    ensures images { D.disk_tells → ChangesOnly (page_ranges (take most (drop from (page_pieces extent.first bytes.now)))) (D.disk disk.old) (D.disk disk.new) }
-    ensures wrote { D.disk_tells → OnOk result (WrotePages (take most (drop from (page_pieces extent.first bytes.now))) (D.disk disk.old).holds (D.disk disk.new).holds) }
+    ensures images { D.disk_tells
+        → ChangesOnly (page_ranges (take most (drop from (page_pieces extent.first bytes.now)))) (D.disk disk.old) (D.disk disk.new) }
+    ensures wrote { D.disk_tells
+        → OnOk result (WrotePages (take most (drop from (page_pieces extent.first bytes.now))) (D.disk disk.old).holds
+        (D.disk disk.new).holds) }
 {
     let all = extent.pages();
     if from >= all {

@@ -52,7 +52,7 @@ fn met(list: &[Posting], reach: Reach) -> usize
     ensures { result ≡ size reach.from reach.to list.now }
 {
     list.iter()
-        .filter(|p| p.span.from < reach.to && reach.from < p.span.to)
+        .filter(|p| p.span.meets(reach.from, reach.to))
         .count()
 }
 

@@ -26,9 +26,11 @@ pub(crate) fn place_all(
 ) -> Result<Vec<Place>, TakeError>
     requires taken { (taken : List Extent) × HasTaken pages.old taken }
     ensures each { IfOk result (λ v. AllZip IsFor v.items spellings.now) }
-    ensures placed { (taken : List Extent) → HasTaken pages.old taken → IfOk result (λ v. ArePlaced taken (sizes spellings.now) (extents v.items)) }
+    ensures placed { (taken : List Extent) → HasTaken pages.old taken
+        → IfOk result (λ v. ArePlaced taken (sizes spellings.now) (extents v.items)) }
     ensures taken { (taken : List Extent) → HasTaken pages.old taken → IfOk result (λ v. HasTaken pages.new (extents v.items ++ taken)) }
-    ensures full { (taken : List Extent) → HasTaken pages.old taken → IsErrOf result TakeError.Full → HaveNoRoom taken (sizes spellings.now) }
+    ensures full { (taken : List Extent) → HasTaken pages.old taken → IsErrOf result TakeError.Full
+        → HaveNoRoom taken (sizes spellings.now) }
     ensures none { (taken : List Extent) → HasTaken pages.old taken → OnErr result (HasTaken pages.new taken) }
 {
     let mut places = Vec::new(alloc);
@@ -105,7 +107,8 @@ fn add_place(
     spelling: &Spelling,
 ) -> Result<(), TakeError>
     ensures added { OnOk result (Adds spelling.now pages.old pages.new places.old.items places.new.items) }
-    ensures full { (taken : List Extent) → HasTaken pages.old taken → IsErrOf result TakeError.Full → (first : ℕ) → IsFreeRun taken (pages_for (length spelling.now)) first → ⊥ }
+    ensures full { (taken : List Extent) → HasTaken pages.old taken → IsErrOf result TakeError.Full → (first : ℕ)
+        → IsFreeRun taken (pages_for (length spelling.now)) first → ⊥ }
     ensures pages { OnErr result (pages.new ≡ pages.old) }
     ensures places { OnErr result (places.new.items ≡ places.old.items) }
 {
@@ -123,7 +126,8 @@ fn add_place(
 /// Gives the pages of places back.
 pub(crate) fn release(pages: &mut Pages, places: &[Place])
     requires taken { (before : List Extent) × ((after : List Extent) × HasTaken pages.old (before ++ (extents places.now ++ after))) }
-    ensures freed { (before : List Extent) (after : List Extent) → HasTaken pages.old (before ++ (extents places.now ++ after)) → HasTaken pages.new (before ++ after) }
+    ensures freed { (before : List Extent) (after : List Extent) → HasTaken pages.old (before ++ (extents places.now ++ after))
+        → HasTaken pages.new (before ++ after) }
 {
     for place in places {
         pages.give_back(place.extent);

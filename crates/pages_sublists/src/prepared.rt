@@ -74,9 +74,12 @@ impl Sublists {
         ensures spelled { IfOk result (λ p. p.spellings ≡ spellings layout list.now (seconds cuts.now) horizon.seconds) }
         ensures each { IfOk result (λ p. AllZip IsFor p.places p.spellings) }
         // Each place takes the lowest run, the earlier ones having been placed.
-        ensures placed { (taken : List Extent) → HasTaken self.old.pages taken → IfOk result (λ p. ArePlaced taken (sizes p.spellings) (extents p.places)) }
-        ensures taken { (taken : List Extent) → HasTaken self.old.pages taken → IfOk result (λ p. HasTaken self.new.pages (extents p.places ++ taken)) }
-        ensures full { (taken : List Extent) → HasTaken self.old.pages taken → IsErrOf result TakeError.Full → HaveNoRoom taken (sizes (spellings layout list.now (seconds cuts.now) horizon.seconds)) }
+        ensures placed { (taken : List Extent) → HasTaken self.old.pages taken
+            → IfOk result (λ p. ArePlaced taken (sizes p.spellings) (extents p.places)) }
+        ensures taken { (taken : List Extent) → HasTaken self.old.pages taken
+            → IfOk result (λ p. HasTaken self.new.pages (extents p.places ++ taken)) }
+        ensures full { (taken : List Extent) → HasTaken self.old.pages taken → IsErrOf result TakeError.Full
+            → HaveNoRoom taken (sizes (spellings layout list.now (seconds cuts.now) horizon.seconds)) }
         // After an error no page is taken.
         ensures none { (taken : List Extent) → HasTaken self.old.pages taken → OnErr result (HasTaken self.new.pages taken) }
         ensures cache { self.new.cache ≡ self.old.cache }
@@ -111,9 +114,11 @@ impl Sublists {
         ensures spelled { IfOk result (λ p. p.spellings ≡ spellings layout list.now (seconds cuts.now) horizon.seconds) }
         ensures places { IfOk result (λ p. p.places ≡ places.now) }
         ensures each { IfOk result (λ p. AllZip IsFor p.places p.spellings) }
-        ensures taken { (taken : List Extent) → HasTaken self.old.pages taken → IfOk result (λ p. HasTaken self.new.pages (extents p.places ++ taken)) }
+        ensures taken { (taken : List Extent) → HasTaken self.old.pages taken
+            → IfOk result (λ p. HasTaken self.new.pages (extents p.places ++ taken)) }
         // The first place that fails a test is named.
-        ensures refused { (taken : List Extent) → HasTaken self.old.pages taken → IfErr result (IsPlaceFault taken places.now (spellings layout list.now (seconds cuts.now) horizon.seconds)) }
+        ensures refused { (taken : List Extent) → HasTaken self.old.pages taken
+            → IfErr result (IsPlaceFault taken places.now (spellings layout list.now (seconds cuts.now) horizon.seconds)) }
         ensures none { (taken : List Extent) → HasTaken self.old.pages taken → OnErr result (HasTaken self.new.pages taken) }
         ensures cache { self.new.cache ≡ self.old.cache }
     {
@@ -132,7 +137,8 @@ impl Sublists {
     /// It costs what giving each old place back does, to the free pages and to the cache.
     pub fn adopt(&mut self, prepared: Prepared, old: &[Place])
         requires taken { (live : List Extent) × HasTaken self.old.pages (extents prepared.places ++ (extents old.now ++ live)) }
-        ensures freed { (live : List Extent) → HasTaken self.old.pages (extents prepared.places ++ (extents old.now ++ live)) → HasTaken self.new.pages (extents prepared.places ++ live) }
+        ensures freed { (live : List Extent) → HasTaken self.old.pages (extents prepared.places ++ (extents old.now ++ live))
+            → HasTaken self.new.pages (extents prepared.places ++ live) }
         ensures cache { self.new.cache ≡ without_all (extents old.now) self.old.cache }
     {
         release(&mut self.pages, old);
@@ -165,7 +171,8 @@ impl Sublists {
         // After Ok the bytes stand in the places, and all else reads as it did; no image is allowed but what reads give.
         ensures stored { D.disk_tells → OnOk result (Stored (pieces prepared.now) (D.disk disk.old) (D.disk disk.new)) }
         // So what is kept stands for Pages as it did.
-        ensures stays { D.disk_tells → StandsFor self.now.cache (D.disk disk.old).holds.pages → OnOk result (StandsFor self.now.cache (D.disk disk.new).holds.pages) }
+        ensures stays { D.disk_tells → StandsFor self.now.cache (D.disk disk.old).holds.pages
+            → OnOk result (StandsFor self.now.cache (D.disk disk.new).holds.pages) }
     {
         write_all(&self.pages, disk, &prepared.places, &prepared.spellings)
     }

@@ -74,18 +74,26 @@ impl Sublists {
         requires inside { place.now.extent.first * 4096 + place.now.extent.bytes ≤ (D.disk disk.old).reach.pages }
         ensures only { D.Disk.only disk.old disk.new }
         ensures failed { IfErr result (IfFailed (Rose (D.disk disk.old).faults (D.disk disk.new).faults)) }
-        ensures same { D.disk disk.new ≡ record (D.disk disk.old) { faults = (D.disk disk.new).faults; bytes_read = (D.disk disk.new).bytes_read } }
+        ensures same { D.disk disk.new ≡ record (D.disk disk.old) {
+          faults = (D.disk disk.new).faults;
+          bytes_read = (D.disk disk.new).bytes_read;
+        } }
         ensures pages { self.new.pages ≡ self.old.pages }
         ensures asked { D.disk_tells → StandsFor self.old.cache (D.disk disk.old).holds.pages
             → OnOk result (self.new.cache ≡ after_asking_all (pieces_at (D.disk disk.old).holds.pages place.now.extent) self.old.cache) }
         ensures count { D.disk_tells → StandsFor self.old.cache (D.disk disk.old).holds.pages
-            → OnOk result ((D.disk disk.new).bytes_read ≡ replaced (D.disk disk.old).bytes_read Area.Pages ((D.disk disk.old).bytes_read.pages
+            → OnOk result ((D.disk disk.new).bytes_read ≡ replaced (D.disk disk.old).bytes_read Area.Pages
+            ((D.disk disk.old).bytes_read.pages
             + missed_by_all (pieces_at (D.disk disk.old).holds.pages place.now.extent) self.old.cache)) }
-        ensures found { D.disk_tells → StandsFor self.old.cache (D.disk disk.old).holds.pages → IfOk result (λ f. IsFramed place.now.digest (bytes_in place.now.extent (D.disk disk.old).holds.pages) f) }
+        ensures found { D.disk_tells → StandsFor self.old.cache (D.disk disk.old).holds.pages
+            → IfOk result (λ f. IsFramed place.now.digest (bytes_in place.now.extent (D.disk disk.old).holds.pages) f) }
         ensures damaged { D.disk_tells → StandsFor self.old.cache (D.disk disk.old).holds.pages
-            → IfErr result (IfDamaged (λ d. (d.page ≡ place.now.extent.first) × IsUnframed place.now.digest (bytes_in place.now.extent (D.disk disk.old).holds.pages) d.why)) }
-        ensures stays { D.disk_tells → StandsFor self.old.cache (D.disk disk.old).holds.pages → StandsFor self.new.cache (D.disk disk.new).holds.pages }
-        ensures lie { (taken : List PlainExtent) → ((p : ℕ) → IsPageOf place.now.extent p → IsTaken taken p) → LieIn taken self.old.cache → LieIn taken self.new.cache }
+            → IfErr result (IfDamaged (λ d. (d.page ≡ place.now.extent.first)
+            × IsUnframed place.now.digest (bytes_in place.now.extent (D.disk disk.old).holds.pages) d.why)) }
+        ensures stays { D.disk_tells → StandsFor self.old.cache (D.disk disk.old).holds.pages
+            → StandsFor self.new.cache (D.disk disk.new).holds.pages }
+        ensures lie { (taken : List PlainExtent) → ((p : ℕ) → IsPageOf place.now.extent p → IsTaken taken p) → LieIn taken self.old.cache
+            → LieIn taken self.new.cache }
     {
         frames_of(&mut self.cache, alloc, disk, place)
     }

@@ -35,7 +35,9 @@ pub fn choose(
     ensures good { IfOk result (λ c. IsGoodPlan kind list.now factor c.cuts.items horizon.seconds) }
     ensures space { IfOk result (λ c. c.space ≡ plan_space list.now c.cuts.items horizon.seconds) }
     ensures cost { IfOk result (λ c. IsCostOf kind list.now c.cuts.items horizon.seconds c.cost) }
-    ensures wide { (n : ℕ) → IsErrOf result (ChoiceError.TooWide n) → (kind ≡ Kind.Guarantee) × ((times : List ℕ) × AreBoundaries list.now horizon.seconds times × (widest < length times) × (n ≡ length times)) }
+    ensures wide { (n : ℕ) → IsErrOf result (ChoiceError.TooWide n)
+        → (kind ≡ Kind.Guarantee)
+        × ((times : List ℕ) × AreBoundaries list.now horizon.seconds times × (widest < length times) × (n ≡ length times)) }
 {
     let table = Table::new(alloc, list, horizon)?;
     let (partition, cost) = chosen(alloc, &table, kind, factor)?;
@@ -52,7 +54,8 @@ fn chosen(
 ) -> Result<(Partition, Option<u128>), ChoiceError>
     ensures fits { IfOk result (λ p. IsFitting table.now.boundaries p.0) }
     ensures chosen { IfOk result (λ p. IsChosenFor kind table.now factor p.0 p.1) }
-    ensures wide { (n : ℕ) → IsErrOf result (ChoiceError.TooWide n) → (kind ≡ Kind.Guarantee) × (widest < length table.now.boundaries) × (n ≡ length table.now.boundaries) }
+    ensures wide { (n : ℕ) → IsErrOf result (ChoiceError.TooWide n) → (kind ≡ Kind.Guarantee) × (widest < length table.now.boundaries)
+        × (n ≡ length table.now.boundaries) }
 {
     let since = match kind {
         Kind::Guarantee => return Ok((planned(alloc, table, factor)?, None)),
@@ -66,9 +69,11 @@ fn chosen(
 /// A least partition, or that there are too many boundaries.
 fn planned(alloc: Global, table: &Table, factor: Fraction) -> Result<Partition, ChoiceError>
     ensures within { IfOk result (λ _. length table.now.boundaries ≤ widest) }
-    ensures wide { (n : ℕ) → IsErrOf result (ChoiceError.TooWide n) → (widest < length table.now.boundaries) × (n ≡ length table.now.boundaries) }
+    ensures wide { (n : ℕ) → IsErrOf result (ChoiceError.TooWide n) → (widest < length table.now.boundaries)
+        × (n ≡ length table.now.boundaries) }
     ensures fits { IfOk result (λ p. IsFitting table.now.boundaries p) }
-    ensures least { IfOk result (λ p. (list : List PlainPosting) (horizon : ℕ) → Tabulates list horizon table.now → IsLeast list factor (slice_index p 0) (drop 1 p) horizon) }
+    ensures least { IfOk result (λ p. (list : List PlainPosting) (horizon : ℕ) → Tabulates list horizon table.now
+        → IsLeast list factor (slice_index p 0) (drop 1 p) horizon) }
 {
     match plan(alloc, table, factor) {
         Ok((partition, _)) => Ok(partition),

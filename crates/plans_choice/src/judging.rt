@@ -51,8 +51,10 @@ fn costs_least(
     factor: Fraction,
     since: u64,
 ) -> Result<bool, AllocError>
-    ensures { IfOk result (λ b. (list : List PlainPosting) (cuts : List PlainTime) (horizon : PlainTime) → Tabulates list horizon.seconds table.now → IsPartition partition.now
-        → partition.now ≡ map (λ (t : PlainTime). t.seconds) (cuts ++ horizon ∷ []) → (IsTrue b ↔ IsBestPlan (each_second_since since) list factor cuts horizon.seconds)) }
+    ensures { IfOk result (λ b. (list : List PlainPosting) (cuts : List PlainTime) (horizon : PlainTime)
+        → Tabulates list horizon.seconds table.now → IsPartition partition.now
+        → partition.now ≡ map (λ (t : PlainTime). t.seconds) (cuts ++ horizon ∷ [])
+        → (IsTrue b ↔ IsBestPlan (each_second_since since) list factor cuts horizon.seconds)) }
 {
     if !spans(table, partition) {
         return Ok(false);
@@ -62,7 +64,8 @@ fn costs_least(
 
 /// Whether a partition begins at the table's first boundary and ends at its last.
 fn spans(table: &Table, partition: &Partition) -> bool
-    ensures yes { IsTrue result ↔ ((slice_index partition.now 0 ≡ slice_index table.now.boundaries 0) × (slice_index partition.now (length partition.now - 1) ≡ slice_index table.now.boundaries (length table.now.boundaries - 1))) }
+    ensures yes { IsTrue result ↔ ((slice_index partition.now 0 ≡ slice_index table.now.boundaries 0)
+        × (slice_index partition.now (length partition.now - 1) ≡ slice_index table.now.boundaries (length table.now.boundaries - 1))) }
 {
     let cuts = partition.cuts();
     let times = table.boundaries();
@@ -76,8 +79,10 @@ fn takes_least(
     partition: &Partition,
     factor: Fraction,
 ) -> Result<bool, AllocError>
-    ensures { IfOk result (λ b. (list : List PlainPosting) (cuts : List PlainTime) (horizon : PlainTime) → Tabulates list horizon.seconds table.now → IsPartition partition.now
-        → partition.now ≡ map (λ (t : PlainTime). t.seconds) (cuts ++ horizon ∷ []) → (IsTrue b ↔ IsGoodPlan Kind.Guarantee list factor cuts horizon.seconds)) }
+    ensures { IfOk result (λ b. (list : List PlainPosting) (cuts : List PlainTime) (horizon : PlainTime)
+        → Tabulates list horizon.seconds table.now → IsPartition partition.now
+        → partition.now ≡ map (λ (t : PlainTime). t.seconds) (cuts ++ horizon ∷ [])
+        → (IsTrue b ↔ IsGoodPlan Kind.Guarantee list factor cuts horizon.seconds)) }
 {
     if !keeps(table, partition, factor) {
         return Ok(false);
@@ -92,7 +97,9 @@ fn takes_least(
 /// Whether the table has few enough boundaries, and a partition has its cuts at these, from the first
 /// to the last, and keeps the factor.
 fn keeps(table: &Table, partition: &Partition, factor: Fraction) -> bool
-    ensures keeps { (list : List PlainPosting) (horizon : ℕ) → Tabulates list horizon table.now → (IsTrue result ↔ ((length table.now.boundaries ≤ widest) × IsFitting table.now.boundaries partition.now × Covers list factor (slice_index partition.now 0) (drop 1 partition.now) horizon)) }
+    ensures keeps { (list : List PlainPosting) (horizon : ℕ) → Tabulates list horizon table.now
+        → (IsTrue result ↔ ((length table.now.boundaries ≤ widest) × IsFitting table.now.boundaries partition.now
+        × Covers list factor (slice_index partition.now 0) (drop 1 partition.now) horizon)) }
     ensures narrow { IsTrue result → length table.now.boundaries ≤ widest }
     ensures fits { IsTrue result → IsFitting table.now.boundaries partition.now }
 {

@@ -44,9 +44,11 @@ pub(crate) fn is_best_since(
     partition: &Partition,
 ) -> Result<bool, AllocError>
     requires first { slice_index partition.now 0 ≡ slice_index table.now.boundaries 0 }
-    requires last { slice_index partition.now (length partition.now - 1) ≡ slice_index table.now.boundaries (length table.now.boundaries - 1) }
+    requires last { slice_index partition.now (length partition.now - 1) ≡ slice_index table.now.boundaries
+        (length table.now.boundaries - 1) }
     ensures { IfOk result (λ b. (list : List Posting) (horizon : ℕ) → Tabulates list horizon table.now
-        → (IsTrue b ↔ IsBestUnder list table.now.boundaries (weights_by (each_second_since since) table.now.boundaries) factor (slice_index table.now.boundaries 0) horizon (drop 1 partition.now))) }
+        → (IsTrue b ↔ IsBestUnder list table.now.boundaries (weights_by (each_second_since since) table.now.boundaries) factor
+        (slice_index table.now.boundaries 0) horizon (drop 1 partition.now))) }
 {
     let load = Load::new(
         move |span: Span| -> u64

@@ -25,7 +25,8 @@ pub(crate) fn choice_of(
     requires last { slice_index partition.now (length partition.now - 1) ≡ horizon.seconds }
     ensures cuts { IfOk result (λ c. map (λ (t : PlainTime). t.seconds) c.cuts.items ++ horizon.seconds ∷ [] ≡ partition.now) }
     ensures some { IfOk result (λ c. 0 < length c.cuts.items) }
-    ensures space { IfOk result (λ c. (list : List Posting) (horizon : ℕ) → Tabulates list horizon table.now → c.space ≡ space list (slice_index partition.now 0) (drop 1 partition.now)) }
+    ensures space { IfOk result (λ c. (list : List Posting) (horizon : ℕ) → Tabulates list horizon table.now
+        → c.space ≡ space list (slice_index partition.now 0) (drop 1 partition.now)) }
     ensures cost { IfOk result (λ c. c.cost ≡ cost) }
 {
     let cuts = times_of(alloc, partition.cuts(), horizon)?;

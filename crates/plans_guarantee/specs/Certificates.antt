@@ -28,10 +28,12 @@ pub record CertifiesCuts (list : List Posting) (factor : Fraction) (times pi cut
 -- A certified partition is least: no admissible partition from the first boundary to the horizon, whatever its
 -- cut times, takes less space.
 abbrev pub CertificateProvesLeast : Type 0
-CertificateProvesLeast = (list : List Posting) (factor : Fraction) (times pi cuts : List ℕ) (horizon : ℕ) → Certifies list factor times pi cuts horizon → IsLeast list factor (slice_index times 0) cuts horizon
+CertificateProvesLeast = (list : List Posting) (factor : Fraction) (times pi cuts : List ℕ) (horizon : ℕ)
+    → Certifies list factor times pi cuts horizon → IsLeast list factor (slice_index times 0) cuts horizon
 
 -- The least spaces up to the boundaries certify each least partition: so who is shown these numbers with a least partition can check it.
 abbrev pub BestNumbersCertify : Type 0
 BestNumbersCertify =
-    (list : List Posting) (factor : Fraction) (times pi cuts : List ℕ) (horizon : ℕ) → All (λ p. p.span.to ≤ horizon) list → AreBest list factor horizon times pi
+    (list : List Posting) (factor : Fraction) (times pi cuts : List ℕ) (horizon : ℕ) → All (λ p. p.span.to ≤ horizon) list
+    → AreBest list factor horizon times pi
     → IsLeast list factor (slice_index times 0) cuts horizon → Certifies list factor times pi cuts horizon

@@ -7,7 +7,8 @@ use Rattle.plans_partitions.specs.Counts.{Counts, AdmissibleBetween, size_betwee
 pub record IsBestLeft (table : Counts) (factor : Fraction) (pi : List ℕ) (k left : ℕ) : Type 0 where
   pub before : left < k
   pub admissible : AdmissibleBetween table factor left k
-  pub none_better : (j : ℕ) → j < k → AdmissibleBetween table factor j k → slice_index pi left + size_between table left k ≤ slice_index pi j + size_between table j k
+  pub none_better : (j : ℕ) → j < k → AdmissibleBetween table factor j k
+      → slice_index pi left + size_between table left k ≤ slice_index pi j + size_between table j k
   pub takes : slice_index pi k ≡ slice_index pi left + size_between table left k
 
 -- The numbers at the boundaries before n, and the left ends of their best last segments.

@@ -54,7 +54,8 @@ fn numbers_certify(
     partition: &Partition,
     pi: &[u64],
 ) -> Result<bool, AllocError>
-    ensures { IfOk result (λ b. (list : List Posting) (horizon : ℕ) → Tabulates list horizon table.now → (IsTrue b ↔ CertifiesCuts list factor table.now.boundaries pi.now partition.now horizon)) }
+    ensures { IfOk result (λ b. (list : List Posting) (horizon : ℕ) → Tabulates list horizon table.now
+        → (IsTrue b ↔ CertifiesCuts list factor table.now.boundaries pi.now partition.now horizon)) }
 {
     if pi.len() != table.boundaries().len() {
         return Ok(false);
@@ -85,8 +86,10 @@ pub fn check(
     partition: &Partition,
     certificate: &Certificate,
 ) -> Result<bool, AllocError>
-    ensures exact { IfOk result (λ b. (list : List Posting) (horizon : ℕ) → Tabulates list horizon table.now → (IsTrue b ↔ CertifiesCuts list factor table.now.boundaries certificate.now partition.now horizon)) }
-    ensures least { IfOk result (λ b. (list : List Posting) (horizon : ℕ) → Tabulates list horizon table.now → IsTrue b → IsLeast list factor (slice_index partition.now 0) (drop 1 partition.now) horizon) }
+    ensures exact { IfOk result (λ b. (list : List Posting) (horizon : ℕ) → Tabulates list horizon table.now
+        → (IsTrue b ↔ CertifiesCuts list factor table.now.boundaries certificate.now partition.now horizon)) }
+    ensures least { IfOk result (λ b. (list : List Posting) (horizon : ℕ) → Tabulates list horizon table.now → IsTrue b
+        → IsLeast list factor (slice_index partition.now 0) (drop 1 partition.now) horizon) }
 {
     numbers_certify(alloc, table, factor, partition, certificate.pi())
 }

@@ -48,9 +48,12 @@ pub fn plan(
     ensures within { IfOk result (λ _. length table.now.boundaries ≤ widest) }
     ensures refused { IfErr result (Explains table.now.boundaries) }
     ensures fits { IfOk result (λ p. IsFitting table.now.boundaries p.0) }
-    ensures least { IfOk result (λ p. (list : List Posting) (horizon : ℕ) → Tabulates list horizon table.now → IsLeast list factor (slice_index p.0 0) (drop 1 p.0) horizon) }
-    ensures best { IfOk result (λ p. (list : List Posting) (horizon : ℕ) → Tabulates list horizon table.now → AreBest list factor horizon table.now.boundaries p.1) }
-    ensures certified { IfOk result (λ p. (list : List Posting) (horizon : ℕ) → Tabulates list horizon table.now → CertifiesCuts list factor table.now.boundaries p.1 p.0 horizon) }
+    ensures least { IfOk result (λ p. (list : List Posting) (horizon : ℕ) → Tabulates list horizon table.now
+        → IsLeast list factor (slice_index p.0 0) (drop 1 p.0) horizon) }
+    ensures best { IfOk result (λ p. (list : List Posting) (horizon : ℕ) → Tabulates list horizon table.now
+        → AreBest list factor horizon table.now.boundaries p.1) }
+    ensures certified { IfOk result (λ p. (list : List Posting) (horizon : ℕ) → Tabulates list horizon table.now
+        → CertifiesCuts list factor table.now.boundaries p.1 p.0 horizon) }
 {
     let times = table.boundaries();
     if times.len() > WIDEST {

@@ -60,7 +60,8 @@ fn add_number(
     ensures from { IfOk result (λ _. window.new.from ≡ low) }
     ensures cheapest { IfOk result (IsCheapest table.now pi.old.items low k) }
     ensures small { IfOk result (λ left. size_between table.now left k < 2 ^ 38) }
-    ensures number { IfOk result (λ left. pi.new.items ≡ pi.old.items ++ (slice_index pi.old.items left + size_between table.now left k) ∷ []) }
+    ensures number { IfOk result (λ left. pi.new.items ≡ pi.old.items ++ (slice_index pi.old.items left + size_between table.now left k)
+        ∷ []) }
 {
     let left = cheapest_left(table, pi, low, k, window)?;
     let number = pi[left] + table.size(left, k);

@@ -85,7 +85,8 @@ IsCappedPlan list factor (f ∷ cuts) h = IsCapped list factor f.seconds (later 
 -- What the reads by the cuts are expected to cost under a load.
 abbrev pub IsPlanCost : (ℕ → ℕ → ℕ) → List Posting → List Time → ℕ → ℕ → Type 0
 IsPlanCost load list [] h cost = ⊥
-IsPlanCost load list (f ∷ cuts) h cost = (times : List ℕ) × AreBoundaries list h times × (cost ≡ expected_cost list f.seconds (later cuts h) times (weights_by load times))
+IsPlanCost load list (f ∷ cuts) h cost = (times : List ℕ) × AreBoundaries list h times
+    × (cost ≡ expected_cost list f.seconds (later cuts h) times (weights_by load times))
 
 -- ---- by the kind
 

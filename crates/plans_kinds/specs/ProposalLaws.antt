@@ -17,16 +17,20 @@ EachListHasAProposal =
 abbrev pub ProposalsDifferInSegments : Type 0
 ProposalsDifferInSegments =
     (list : List Posting) (factor : Fraction) (horizon : ℕ) (segments others : List Segment) (nodes those : List Node) (total sum : ℕ)
-    → IsProposal list factor horizon segments nodes total → IsProposal list factor horizon others those sum → (nodes ≡ those) × (total ≡ sum)
+    → IsProposal list factor horizon segments nodes total → IsProposal list factor horizon others those sum
+    → (nodes ≡ those) × (total ≡ sum)
 
 -- Each admissible partition of a list can be shown.
 abbrev pub EachPartitionIsShown : Type 0
 EachPartitionIsShown =
-    (list : List Posting) (factor : Fraction) (horizon first : ℕ) (cuts : List ℕ) → horizon ≤ 2 ^ 40 → All (λ p. p.span.to ≤ horizon) list → Covers list factor first cuts horizon
+    (list : List Posting) (factor : Fraction) (horizon first : ℕ) (cuts : List ℕ) → horizon ≤ 2 ^ 40 → All (λ p. p.span.to ≤ horizon) list
+    → Covers list factor first cuts horizon
     → (segments : List Segment) × ((nodes : List Node) × IsShown list factor horizon first cuts segments nodes (space list first cuts))
 
 -- A partition is shown in one way.
 abbrev pub PartitionsAreShownOnce : Type 0
 PartitionsAreShownOnce =
-    (list : List Posting) (factor : Fraction) (horizon first : ℕ) (cuts : List ℕ) (segments others : List Segment) (nodes those : List Node) (total sum : ℕ)
-    → IsShown list factor horizon first cuts segments nodes total → IsShown list factor horizon first cuts others those sum → (segments ≡ others) × (nodes ≡ those) × (total ≡ sum)
+    (list : List Posting) (factor : Fraction) (horizon first : ℕ) (cuts : List ℕ) (segments others : List Segment) (nodes those : List Node)
+    (total sum : ℕ)
+    → IsShown list factor horizon first cuts segments nodes total → IsShown list factor horizon first cuts others those sum
+    → (segments ≡ others) × (nodes ≡ those) × (total ≡ sum)

@@ -34,7 +34,8 @@ abbrev pub AreNodes : List ℕ → List ℕ → List Node → Type 0
 AreNodes times numbers nodes = map bare_node nodes ≡ zip times numbers
 
 -- What is shown of a partition of a list: its segments, its space, and for each boundary of the list the least space up to there.
-pub record IsShown (list : List Posting) (factor : Fraction) (horizon first : ℕ) (cuts : List ℕ) (segments : List Segment) (nodes : List Node) (total : ℕ) : Type 0 where
+pub record IsShown (list : List Posting) (factor : Fraction) (horizon first : ℕ) (cuts : List ℕ) (segments : List Segment)
+    (nodes : List Node) (total : ℕ) : Type 0 where
   pub segments_are : AreSegments list first cuts segments
   pub total_is : total ≡ space list first cuts
   pub times : List ℕ
@@ -43,7 +44,8 @@ pub record IsShown (list : List Posting) (factor : Fraction) (horizon first : �
   pub nodes_are : AreNodes times numbers nodes
 
 -- What is proposed for a list: any least partition, as it is shown.
-pub record IsProposal (list : List Posting) (factor : Fraction) (horizon : ℕ) (segments : List Segment) (nodes : List Node) (total : ℕ) : Type 0 where
+pub record IsProposal (list : List Posting) (factor : Fraction) (horizon : ℕ) (segments : List Segment) (nodes : List Node)
+    (total : ℕ) : Type 0 where
   pub first : ℕ
   pub cuts : List ℕ
   pub least : IsLeast list factor first cuts horizon

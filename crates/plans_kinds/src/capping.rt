@@ -47,7 +47,8 @@ fn space_of(table: &Table, cuts: &[u64]) -> u128
     requires some { 0 < length cuts.now }
     requires first { slice_index table.now.boundaries 0 ≤ slice_index cuts.now 0 }
     requires last { slice_index cuts.now (length cuts.now - 1) ≤ slice_index table.now.boundaries (length table.now.boundaries - 1) }
-    ensures { (list : List Posting) (horizon : ℕ) → Tabulates list horizon table.now → result ≡ space list (slice_index cuts.now 0) (drop 1 cuts.now) }
+    ensures { (list : List Posting) (horizon : ℕ) → Tabulates list horizon table.now
+        → result ≡ space list (slice_index cuts.now 0) (drop 1 cuts.now) }
 {
     let mut total = 0;
     for k in 0..cuts.len() - 1 {
@@ -67,8 +68,11 @@ fn cap_of(factor: Fraction, postings: u64) -> u128
 /// factor times the list's postings. Costs time in the cuts, and for each the logarithm of the
 /// boundaries.
 pub(crate) fn keeps_cap(table: &Table, partition: &Partition, factor: Fraction) -> bool
-    requires last { slice_index partition.now (length partition.now - 1) ≤ slice_index table.now.boundaries (length table.now.boundaries - 1) }
-    ensures { (list : List Posting) (horizon : ℕ) → Tabulates list horizon table.now → (IsTrue result ↔ ((slice_index partition.now 0 ≡ slice_index table.now.boundaries 0) × (space list (slice_index partition.now 0) (drop 1 partition.now) ≤ cap factor (length list)))) }
+    requires last { slice_index partition.now (length partition.now - 1) ≤ slice_index table.now.boundaries
+        (length table.now.boundaries - 1) }
+    ensures { (list : List Posting) (horizon : ℕ) → Tabulates list horizon table.now
+        → (IsTrue result ↔ ((slice_index partition.now 0 ≡ slice_index table.now.boundaries 0)
+        × (space list (slice_index partition.now 0) (drop 1 partition.now) ≤ cap factor (length list)))) }
 {
     let cuts = partition.cuts();
     cuts[0] == table.boundaries()[0] && space_of(table, cuts) <= cap_of(factor, table.postings())

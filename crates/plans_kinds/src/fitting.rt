@@ -41,7 +41,9 @@ pub fn partition_of(
 /// Whether the table has at most 1,048,576 boundaries, and a partition has its cuts at these, from the
 /// first to the last, and keeps the factor. Costs time in the boundaries and in the cuts.
 fn keeps_guarantee(table: &Table, partition: &Partition, factor: Fraction) -> bool
-    ensures { (list : List Posting) (horizon : ℕ) → Tabulates list horizon table.now → (IsTrue result ↔ ((length table.now.boundaries ≤ 1048576) × IsFitting table.now.boundaries partition.now × Covers list factor (slice_index partition.now 0) (drop 1 partition.now) horizon)) }
+    ensures { (list : List Posting) (horizon : ℕ) → Tabulates list horizon table.now
+        → (IsTrue result ↔ ((length table.now.boundaries ≤ 1048576) × IsFitting table.now.boundaries partition.now
+        × Covers list factor (slice_index partition.now 0) (drop 1 partition.now) horizon)) }
 {
     table.boundaries().len() <= WIDEST
         && partition.fits(table)
@@ -50,8 +52,11 @@ fn keeps_guarantee(table: &Table, partition: &Partition, factor: Fraction) -> bo
 
 /// Whether a plan with the partition's cuts may be loaded, which is tested by its kind.
 fn keeps(table: &Table, partition: &Partition, kind: Kind, factor: Fraction) -> bool
-    requires last { slice_index partition.now (length partition.now - 1) ≤ slice_index table.now.boundaries (length table.now.boundaries - 1) }
-    ensures { (list : List Posting) (cuts : List Time) (horizon : Time) → Tabulates list horizon.seconds table.now → IsPartition partition.now → partition.now ≡ map (λ (t : Time). t.seconds) (cuts ++ horizon ∷ []) → (IsTrue result ↔ IsFitFor kind list factor cuts horizon.seconds) }
+    requires last { slice_index partition.now (length partition.now - 1) ≤ slice_index table.now.boundaries
+        (length table.now.boundaries - 1) }
+    ensures { (list : List Posting) (cuts : List Time) (horizon : Time) → Tabulates list horizon.seconds table.now
+        → IsPartition partition.now → partition.now ≡ map (λ (t : Time). t.seconds) (cuts ++ horizon ∷ [])
+        → (IsTrue result ↔ IsFitFor kind list factor cuts horizon.seconds) }
 {
     match kind {
         Kind::Guarantee => keeps_guarantee(table, partition, factor),

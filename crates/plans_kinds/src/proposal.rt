@@ -51,9 +51,11 @@ impl Proposal {
         requires fits { IsFitting table.now.boundaries partition.now }
         requires few { length partition.now ≤ 2 ^ 24 + 1 }
         requires many { length numbers.now ≡ length table.now.boundaries }
-        ensures segments { IfOk result (λ p. (list : List Posting) (horizon : ℕ) → Tabulates list horizon table.now → AreSegments list (slice_index partition.now 0) (drop 1 partition.now) p.segments.items) }
+        ensures segments { IfOk result (λ p. (list : List Posting) (horizon : ℕ) → Tabulates list horizon table.now
+            → AreSegments list (slice_index partition.now 0) (drop 1 partition.now) p.segments.items) }
         ensures nodes { IfOk result (λ p. AreNodes table.now.boundaries numbers.now p.nodes.items) }
-        ensures space { IfOk result (λ p. (list : List Posting) (horizon : ℕ) → Tabulates list horizon table.now → p.space ≡ space list (slice_index partition.now 0) (drop 1 partition.now)) }
+        ensures space { IfOk result (λ p. (list : List Posting) (horizon : ℕ) → Tabulates list horizon table.now
+            → p.space ≡ space list (slice_index partition.now 0) (drop 1 partition.now)) }
     {
         let times = table.boundaries();
         let sizes = partition.sizes(alloc, table)?;

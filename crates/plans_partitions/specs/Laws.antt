@@ -13,17 +13,20 @@ EachListHasBoundaries = (list : List Posting) (horizon : ℕ) → (times : List 
 
 -- They are one list.
 abbrev pub OneListOfBoundaries : Type 0
-OneListOfBoundaries = (list : List Posting) (horizon : ℕ) (a b : List ℕ) → AreBoundaries list horizon a → AreBoundaries list horizon b → a ≡ b
+OneListOfBoundaries = (list : List Posting) (horizon : ℕ) (a b : List ℕ) → AreBoundaries list horizon a → AreBoundaries list horizon b
+    → a ≡ b
 
 -- A list whose spans end at or before the horizon has a least space up to each boundary, for each factor.
 abbrev pub EachListHasBest : Type 0
 EachListHasBest =
-    (list : List Posting) (factor : Fraction) (horizon : ℕ) (times : List ℕ) → All (λ p. p.span.to ≤ horizon) list → AreBoundaries list horizon times
+    (list : List Posting) (factor : Fraction) (horizon : ℕ) (times : List ℕ) → All (λ p. p.span.to ≤ horizon) list
+    → AreBoundaries list horizon times
     → (numbers : List ℕ) × AreBest list factor horizon times numbers
 
 -- These spaces are one list of numbers.
 abbrev pub OneListOfBest : Type 0
-OneListOfBest = (list : List Posting) (factor : Fraction) (horizon : ℕ) (times a b : List ℕ) → AreBest list factor horizon times a → AreBest list factor horizon times b → a ≡ b
+OneListOfBest = (list : List Posting) (factor : Fraction) (horizon : ℕ) (times a b : List ℕ) → AreBest list factor horizon times a
+    → AreBest list factor horizon times b → a ≡ b
 
 -- Such a list has a least partition, for each factor.
 abbrev pub EachListHasALeast : Type 0
@@ -35,11 +38,13 @@ EachListHasALeast =
 abbrev pub EachListHasALeastPlan : Type 0
 EachListHasALeastPlan =
     (list : List Posting) (factor : Fraction) (horizon : Time) → 0 < length list → All (λ p. p.span.to ≤ horizon.seconds) list
-    → (first : Time) × ((cuts : List Time) × IsLeast list factor first.seconds (map (λ (t : Time). t.seconds) cuts ++ horizon.seconds ∷ []) horizon.seconds)
+    → (first : Time) × ((cuts : List Time)
+    × IsLeast list factor first.seconds (map (λ (t : Time). t.seconds) cuts ++ horizon.seconds ∷ []) horizon.seconds)
 
 -- A partition at boundaries has ascending cuts, and no more of them than there are boundaries.
 abbrev pub PartitionsAreNarrow : Type 0
 PartitionsAreNarrow =
-    (list : List Posting) (factor : Fraction) (horizon : ℕ) (times : List ℕ) (first : ℕ) (cuts : List ℕ) (end : ℕ) → AreBoundaries list horizon times
+    (list : List Posting) (factor : Fraction) (horizon : ℕ) (times : List ℕ) (first : ℕ) (cuts : List ℕ) (end : ℕ)
+    → AreBoundaries list horizon times
     → IsBoundary list horizon first → All (IsBoundary list horizon) cuts → Covers list factor first cuts end
     → IsStrictlyIncreasing (first ∷ cuts) × (length (first ∷ cuts) ≤ length times)

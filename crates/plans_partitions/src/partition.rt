@@ -75,7 +75,8 @@ impl Partition {
     /// boundaries.
     pub fn admissible(&self, table: &Table, factor: Fraction) -> bool
         requires fits { IsFitting table.now.boundaries self.now }
-        ensures { (list : List Posting) (horizon : ℕ) → Tabulates list horizon table.now → (IsTrue result ↔ Covers list factor (slice_index self.now 0) (drop 1 self.now) horizon) }
+        ensures { (list : List Posting) (horizon : ℕ) → Tabulates list horizon table.now
+            → (IsTrue result ↔ Covers list factor (slice_index self.now 0) (drop 1 self.now) horizon) }
     {
         are_admissible(table, factor, self.cuts())
     }
@@ -83,7 +84,8 @@ impl Partition {
     /// The space of the partition, which fits the table, in postings. Costs time in the boundaries.
     pub fn whole_space(&self, table: &Table) -> u128
         requires fits { IsFitting table.now.boundaries self.now }
-        ensures value { (list : List Posting) (horizon : ℕ) → Tabulates list horizon table.now → result ≡ space list (slice_index self.now 0) (drop 1 self.now) }
+        ensures value { (list : List Posting) (horizon : ℕ) → Tabulates list horizon table.now
+            → result ≡ space list (slice_index self.now 0) (drop 1 self.now) }
         ensures bound { result ≤ (length self.now - 1) * 2 ^ 38 }
     {
         space_between(table, self.cuts())
@@ -94,7 +96,8 @@ impl Partition {
     pub fn space(&self, table: &Table) -> u64
         requires fits { IsFitting table.now.boundaries self.now }
         requires few { length self.now ≤ 2 ^ 24 + 1 }
-        ensures value { (list : List Posting) (horizon : ℕ) → Tabulates list horizon table.now → result ≡ space list (slice_index self.now 0) (drop 1 self.now) }
+        ensures value { (list : List Posting) (horizon : ℕ) → Tabulates list horizon table.now
+            → result ≡ space list (slice_index self.now 0) (drop 1 self.now) }
         ensures bound { result ≤ 2 ^ 62 }
     {
         self.whole_space(table) as u64
@@ -105,7 +108,8 @@ impl Partition {
     pub fn sizes(&self, alloc: Global, table: &Table) -> Result<Vec<u64>, AllocError>
         requires fits { IsFitting table.now.boundaries self.now }
         ensures many { IfOk result (λ v. length self.now ≡ length v.items + 1) }
-        ensures value { IfOk result (λ v. (list : List Posting) (horizon : ℕ) → Tabulates list horizon table.now → v.items ≡ sizes list (slice_index self.now 0) (drop 1 self.now)) }
+        ensures value { IfOk result (λ v. (list : List Posting) (horizon : ℕ) → Tabulates list horizon table.now
+            → v.items ≡ sizes list (slice_index self.now 0) (drop 1 self.now)) }
     {
         sizes_between(alloc, table, self.cuts())
     }
@@ -204,7 +208,8 @@ fn are_admissible(table: &Table, factor: Fraction, cuts: &[u64]) -> bool
     requires some { 0 < length cuts.now }
     requires first { slice_index cuts.now 0 ≡ slice_index table.now.boundaries 0 }
     requires inside { All (Contains table.now.boundaries) cuts.now }
-    ensures { (list : List Posting) (horizon : ℕ) → Tabulates list horizon table.now → (IsTrue result ↔ Covers list factor (slice_index cuts.now 0) (drop 1 cuts.now) (slice_index cuts.now (length cuts.now - 1))) }
+    ensures { (list : List Posting) (horizon : ℕ) → Tabulates list horizon table.now
+        → (IsTrue result ↔ Covers list factor (slice_index cuts.now 0) (drop 1 cuts.now) (slice_index cuts.now (length cuts.now - 1))) }
 {
     let mut at = 0;
     for k in 0..cuts.len() - 1 {
@@ -223,7 +228,8 @@ fn space_between(table: &Table, cuts: &[u64]) -> u128
     requires some { 0 < length cuts.now }
     requires first { slice_index cuts.now 0 ≡ slice_index table.now.boundaries 0 }
     requires inside { All (Contains table.now.boundaries) cuts.now }
-    ensures value { (list : List Posting) (horizon : ℕ) → Tabulates list horizon table.now → result ≡ space list (slice_index cuts.now 0) (drop 1 cuts.now) }
+    ensures value { (list : List Posting) (horizon : ℕ) → Tabulates list horizon table.now
+        → result ≡ space list (slice_index cuts.now 0) (drop 1 cuts.now) }
     ensures bound { result ≤ (length cuts.now - 1) * 2 ^ 38 }
 {
     let mut at = 0;
@@ -243,7 +249,8 @@ fn sizes_between(alloc: Global, table: &Table, cuts: &[u64]) -> Result<Vec<u64>,
     requires first { slice_index cuts.now 0 ≡ slice_index table.now.boundaries 0 }
     requires inside { All (Contains table.now.boundaries) cuts.now }
     ensures many { IfOk result (λ v. length cuts.now ≡ length v.items + 1) }
-    ensures value { IfOk result (λ v. (list : List Posting) (horizon : ℕ) → Tabulates list horizon table.now → v.items ≡ sizes list (slice_index cuts.now 0) (drop 1 cuts.now)) }
+    ensures value { IfOk result (λ v. (list : List Posting) (horizon : ℕ) → Tabulates list horizon table.now
+        → v.items ≡ sizes list (slice_index cuts.now 0) (drop 1 cuts.now)) }
 {
     let mut at = 0;
     let mut sizes = Vec::with_capacity(alloc, cuts.len() - 1)?;

@@ -40,7 +40,8 @@ fn starts_before(queue: &VecDeque<(usize, u128)>, place: usize) -> bool
 
 /// Lets the first entries go that stand before `place`.
 pub(crate) fn leave_before(queue: &mut VecDeque<(usize, u128)>, place: usize)
-    ensures { (f : ℕ → ℕ) (from next : ℕ) → from ≤ place → place ≤ next → IsQueue f from next queue.old.items → IsQueue f place next queue.new.items }
+    ensures { (f : ℕ → ℕ) (from next : ℕ) → from ≤ place → place ≤ next → IsQueue f from next queue.old.items
+        → IsQueue f place next queue.new.items }
 {
     while starts_before(queue, place) {
         queue.pop_front();

@@ -121,7 +121,8 @@ pub(crate) fn begun_at(
     starts: Vec<u64>,
     times: &[u64],
 ) -> Result<Vec<u64>, AllocError>
-    ensures { (list : List Posting) → starts.items ≡ map (λ p. p.span.from) list → IfOk result (λ v. v.items ≡ map (λ t. begun t list) times.now) }
+    ensures { (list : List Posting) → starts.items ≡ map (λ p. p.span.from) list
+        → IfOk result (λ v. v.items ≡ map (λ t. begun t list) times.now) }
 {
     counts_below(alloc, &sorted(starts), times)
 }
@@ -133,7 +134,8 @@ pub(crate) fn ended_at(
     stops: Vec<u64>,
     times: &[u64],
 ) -> Result<Vec<u64>, AllocError>
-    ensures { (list : List Posting) → stops.items ≡ map (λ p. p.span.to) list → IfOk result (λ v. v.items ≡ map (λ t. ended t list) times.now) }
+    ensures { (list : List Posting) → stops.items ≡ map (λ p. p.span.to) list
+        → IfOk result (λ v. v.items ≡ map (λ t. ended t list) times.now) }
 {
     counts_to(alloc, &sorted(stops), times)
 }

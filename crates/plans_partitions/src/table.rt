@@ -76,7 +76,8 @@ impl Table {
         requires inside { k + 1 < length self.now.boundaries }
         ensures value { result ≡ alive_in self.now k }
         ensures bound { result < 2 ^ 38 }
-        ensures count { (list : List Posting) (horizon t : ℕ) → Tabulates list horizon self.now → slice_index self.now.boundaries k ≤ t → t < slice_index self.now.boundaries (k + 1) → result ≡ alive_count t list }
+        ensures count { (list : List Posting) (horizon t : ℕ) → Tabulates list horizon self.now → slice_index self.now.boundaries k ≤ t
+            → t < slice_index self.now.boundaries (k + 1) → result ≡ alive_count t list }
     {
         self.postings_in(k, k)
     }
@@ -87,7 +88,8 @@ impl Table {
         requires inside { k < length self.now.boundaries }
         ensures value { result ≡ size_between self.now j k }
         ensures bound { result < 2 ^ 38 }
-        ensures count { (list : List Posting) (horizon : ℕ) → Tabulates list horizon self.now → result ≡ size (slice_index self.now.boundaries j) (slice_index self.now.boundaries k) list }
+        ensures count { (list : List Posting) (horizon : ℕ) → Tabulates list horizon self.now
+            → result ≡ size (slice_index self.now.boundaries j) (slice_index self.now.boundaries k) list }
     {
         self.postings_in(j, k - 1)
     }

@@ -55,7 +55,8 @@ fn lowered(mut row: Vec<Option<u128>>, below: &[Option<u128>], point: Point) -> 
     requires cheap { point.cost < 2 ^ 100 }
     requires below { All (λ v. IfSome v (λ w. w ≤ 2 ^ 110)) below.now }
     ensures long { length result.items ≡ length row.items }
-    ensures lowered { (c : ℕ) → c < length row.items → slice_index_or result.items c None ≡ lesser (slice_index_or row.items c None) (through below.now point c) }
+    ensures lowered { (c : ℕ) → c < length row.items
+        → slice_index_or result.items c None ≡ lesser (slice_index_or row.items c None) (through below.now point c) }
 {
     for c in first_charge(point, row.len())..row.len() {
         row[c] = lesser(row[c], through(below, point, c));
@@ -73,7 +74,8 @@ pub(crate) fn row(
     requires few { length offer.now.front.items ≤ 4097 }
     requires cheap { AreCheap offer.now }
     requires below { All (λ v. IfSome v (λ w. w ≤ 2 ^ 110)) below.now }
-    ensures { IfOk result (λ v. (rest : List PlainOffer) → IsSettled rest (length below.now) below.now → IsSettled (offer.now ∷ rest) (length below.now) v.items) }
+    ensures { IfOk result (λ v. (rest : List PlainOffer) → IsSettled rest (length below.now) below.now
+        → IsSettled (offer.now ∷ rest) (length below.now) v.items) }
 {
     let mut row = vec![in alloc; None; below.len()]?;
     for pick in 0..offer.front.len() + 1 {

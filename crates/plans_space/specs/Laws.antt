@@ -24,7 +24,8 @@ EachListHasABest =
 -- A partition of boundaries' times that may be chosen has at most 127 segments.
 abbrev pub EligibleIsShort : Type 0
 EligibleIsShort =
-    (list : List Posting) (times : List ℕ) (factor : Fraction) (f horizon : ℕ) (cuts : List ℕ) → IsStrictlyIncreasing times → slice_index times 0 ≡ f
+    (list : List Posting) (times : List ℕ) (factor : Fraction) (f horizon : ℕ) (cuts : List ℕ) → IsStrictlyIncreasing times
+    → slice_index times 0 ≡ f
     → IsEligible list times factor f horizon cuts → length cuts ≤ 127
 
 -- Where a load answers by a function of a span's two ends, the weights are that function's.

@@ -33,7 +33,8 @@ abbrev pub leg_charge : Counts → ℕ → List ℕ → ℕ → ℕ → ℕ
 leg_charge table unit places i j = charge unit (size_between table (slice_index places i) (slice_index places j))
 
 abbrev pub leg_cost : Counts → List ℕ → List ℕ → ℕ → ℕ → ℕ
-leg_cost table sums places i j = (slice_index sums (slice_index places j) - slice_index sums (slice_index places i)) * size_between table (slice_index places i) (slice_index places j)
+leg_cost table sums places i j = (slice_index sums (slice_index places j) - slice_index sums (slice_index places i)) * size_between table
+    (slice_index places i) (slice_index places j)
 
 -- The charges and costs of the legs from stop i to the first n.
 pub record AreLegs (table : Counts) (unit : ℕ) (sums places : List ℕ) (i n : ℕ) (charges costs : List ℕ) : Type 0 where
@@ -80,7 +81,8 @@ plus cost (Some rest) = Some (cost + rest)
 
 -- The least cost by the leg to stop j for at most the charge c.
 abbrev pub through : List (Option ℕ) → ℕ → List ℕ → List ℕ → ℕ → ℕ → Option ℕ
-through cells width charges costs c j = if nat_le (slice_index charges j) c then plus (slice_index costs j) (cell cells width j (c - slice_index charges j)) else None
+through cells width charges costs c j = if nat_le (slice_index charges j) c then plus (slice_index costs j)
+    (cell cells width j (c - slice_index charges j)) else None
 
 -- The lesser of two costs, where there are any.
 abbrev pub lesser : Option ℕ → Option ℕ → Option ℕ
@@ -120,7 +122,8 @@ pub record IsCourse (charge cost : ℕ → ℕ → ℕ) (times places : List ℕ
   pub are : cuts ≡ map (λ k. slice_index times (slice_index places k)) (i ∷ path)
 
 -- What planning goes by, of a table and weights.
-pub record IsSurvey (table : Counts) (factor : Fraction) (unit' budget' : ℕ) (weights sums places : List ℕ) (cells : List (Option ℕ)) : Type 0 where
+pub record IsSurvey (table : Counts) (factor : Fraction) (unit' budget' : ℕ) (weights sums places : List ℕ)
+    (cells : List (Option ℕ)) : Type 0 where
   pub many : 2 ≤ length table.boundaries
   pub unit_is : unit' ≡ unit (cap factor (size_between table 0 (length table.boundaries - 1)))
   pub budget_is : budget' ≡ budget (cap factor (size_between table 0 (length table.boundaries - 1)))
@@ -133,14 +136,16 @@ pub record IsSurvey (table : Counts) (factor : Fraction) (unit' budget' : ℕ) (
 
 -- The cost of the one piece.
 abbrev pub whole_cost : Counts → List ℕ → ℕ
-whole_cost table sums = (slice_index sums (length table.boundaries - 1) - slice_index sums 0) * size_between table 0 (length table.boundaries - 1)
+whole_cost table sums = (slice_index sums (length table.boundaries - 1) - slice_index sums 0) * size_between table 0
+    (length table.boundaries - 1)
 
 -- The cuts and their cost, the least of that of the one piece and of what the last cell says: the one piece, or the
 -- cuts of a course.
 abbrev pub IsChosen : Counts → (unit' budget' : ℕ) → (sums places : List ℕ) → List (Option ℕ) → List ℕ → ℕ → Type 0
 IsChosen table unit' budget' sums places cells cuts v =
     (lesser (Some (whole_cost table sums)) (cell cells (budget' + 1) (length places - 1) budget') ≡ Some v)
-    × (((cuts ≡ slice_index table.boundaries 0 ∷ slice_index table.boundaries (length table.boundaries - 1) ∷ []) × (v ≡ whole_cost table sums))
+    × (((cuts ≡ slice_index table.boundaries 0 ∷ slice_index table.boundaries (length table.boundaries - 1) ∷ [])
+    × (v ≡ whole_cost table sums))
     ⊎ IsCourse (leg_charge table unit' places) (leg_cost table sums places) table.boundaries places (length places - 1) budget' v cuts)
 
 -- At the charge c the least cost from stop i falls to v.

@@ -22,9 +22,11 @@ pub(crate) fn cuts_along(
     requires long { length sums.now ≡ length table.now.boundaries }
     requires rising { (j k : ℕ) → j ≤ k → k < length sums.now → slice_index sums.now j ≤ slice_index sums.now k }
     requires small { All (λ s. s ≤ 2 ^ 80) sums.now }
-    requires cells { AreCells (leg_charge table.now limits.unit places.now) (leg_cost table.now sums.now places.now) (limits.budget + 1) cells.now (length places.now) }
+    requires cells { AreCells (leg_charge table.now limits.unit places.now) (leg_cost table.now sums.now places.now)
+        (limits.budget + 1) cells.now (length places.now) }
     requires cost { cell cells.now (limits.budget + 1) (length places.now - 1) limits.budget ≡ Some cost }
-    ensures { IfOk result (λ v. IsCourse (leg_charge table.now limits.unit places.now) (leg_cost table.now sums.now places.now) table.now.boundaries places.now (length places.now - 1) limits.budget cost v.items) }
+    ensures { IfOk result (λ v. IsCourse (leg_charge table.now limits.unit places.now) (leg_cost table.now sums.now places.now)
+        table.now.boundaries places.now (length places.now - 1) limits.budget cost v.items) }
 {
     let times = table.boundaries();
     let width = limits.budget + 1;

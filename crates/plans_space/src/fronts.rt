@@ -47,7 +47,8 @@ pub(crate) fn points_of(
 ) -> Result<Vec<Point>, AllocError>
     requires few { width ≤ 2 ^ 20 }
     requires long { stop * width + width ≤ length cells.now }
-    ensures { (charge cost : ℕ → ℕ → ℕ) → AreCells charge cost width cells.now (stop + 1) → IfOk result (λ v. ArePoints charge cost stop width v.items) }
+    ensures { (charge cost : ℕ → ℕ → ℕ) → AreCells charge cost width cells.now (stop + 1)
+        → IfOk result (λ v. ArePoints charge cost stop width v.items) }
 {
     let mut points = Vec::new(alloc);
     let mut before = None;

@@ -29,9 +29,12 @@ pub fn is_best<F: Fn(Span) -> u64>(
 ) -> Result<bool, AllocError>
     requires weighs { Weighs (F.pre load.now) (F.post load.now) }
     requires first { slice_index partition.now 0 ≡ slice_index table.now.boundaries 0 }
-    requires last { slice_index partition.now (length partition.now - 1) ≡ slice_index table.now.boundaries (length table.now.boundaries - 1) }
+    requires last { slice_index partition.now (length partition.now - 1) ≡ slice_index table.now.boundaries
+        (length table.now.boundaries - 1) }
     ensures { IfOk result (λ b. (weights : List ℕ) × AreWeights (F.post load.now) table.now.boundaries weights
-        × ((list : List Posting) (horizon : ℕ) → Tabulates list horizon table.now → (IsTrue b ↔ IsBestUnder list table.now.boundaries weights factor (slice_index table.now.boundaries 0) horizon (drop 1 partition.now)))) }
+        × ((list : List Posting) (horizon : ℕ) → Tabulates list horizon table.now
+        → (IsTrue b ↔ IsBestUnder list table.now.boundaries weights factor (slice_index table.now.boundaries 0) horizon
+        (drop 1 partition.now)))) }
 {
     let survey = survey_of(alloc, table, factor, load)?;
     let best = costs_least(alloc, table, &survey, partition.cuts())?;
@@ -47,9 +50,15 @@ fn costs_least(
 ) -> Result<bool, AllocError>
     requires many { 2 ≤ length cuts.now }
     requires last { slice_index cuts.now (length cuts.now - 1) ≡ slice_index table.now.boundaries (length table.now.boundaries - 1) }
-    requires surveyed { (factor : Fraction) × (weights : List ℕ) × IsSurvey table.now factor survey.now.limits.unit survey.now.limits.budget weights survey.now.sums.items survey.now.places.items survey.now.cells.items }
-    ensures { (factor : Fraction) (weights : List ℕ) → IsSurvey table.now factor survey.now.limits.unit survey.now.limits.budget weights survey.now.sums.items survey.now.places.items survey.now.cells.items
-        → IfOk result (λ b. (list : List Posting) (horizon : ℕ) → Tabulates list horizon table.now → (IsTrue b ↔ IsBestUnder list table.now.boundaries weights factor (slice_index table.now.boundaries 0) horizon (drop 1 cuts.now))) }
+    requires surveyed { (factor : Fraction) × (weights : List ℕ)
+        × IsSurvey table.now factor survey.now.limits.unit survey.now.limits.budget weights survey.now.sums.items survey.now.places.items
+        survey.now.cells.items }
+    ensures { (factor : Fraction) (weights : List ℕ)
+        → IsSurvey table.now factor survey.now.limits.unit survey.now.limits.budget weights survey.now.sums.items survey.now.places.items
+        survey.now.cells.items
+        → IfOk result (λ b. (list : List Posting) (horizon : ℕ) → Tabulates list horizon table.now
+        → (IsTrue b ↔ IsBestUnder list table.now.boundaries weights factor (slice_index table.now.boundaries 0) horizon
+        (drop 1 cuts.now))) }
 {
     let Some(cost) = cost_of(table, survey, cuts) else {
         return Ok(false);
@@ -62,11 +71,17 @@ fn costs_least(
 fn cost_of(table: &Table, survey: &Survey, cuts: &[u64]) -> Option<u128>
     requires many { 2 ≤ length cuts.now }
     requires last { slice_index cuts.now (length cuts.now - 1) ≡ slice_index table.now.boundaries (length table.now.boundaries - 1) }
-    requires surveyed { (factor : Fraction) × (weights : List ℕ) × IsSurvey table.now factor survey.now.limits.unit survey.now.limits.budget weights survey.now.sums.items survey.now.places.items survey.now.cells.items }
-    ensures { (factor : Fraction) (weights : List ℕ) → IsSurvey table.now factor survey.now.limits.unit survey.now.limits.budget weights survey.now.sums.items survey.now.places.items survey.now.cells.items
+    requires surveyed { (factor : Fraction) × (weights : List ℕ)
+        × IsSurvey table.now factor survey.now.limits.unit survey.now.limits.budget weights survey.now.sums.items survey.now.places.items
+        survey.now.cells.items }
+    ensures { (factor : Fraction) (weights : List ℕ)
+        → IsSurvey table.now factor survey.now.limits.unit survey.now.limits.budget weights survey.now.sums.items survey.now.places.items
+        survey.now.cells.items
         → (list : List Posting) (horizon : ℕ) → Tabulates list horizon table.now
-        → MatchOption result (IsEligible list table.now.boundaries factor (slice_index table.now.boundaries 0) horizon (drop 1 cuts.now) → ⊥)
-        (λ n. IsEligible list table.now.boundaries factor (slice_index table.now.boundaries 0) horizon (drop 1 cuts.now) × (n ≡ expected_cost list (slice_index table.now.boundaries 0) (drop 1 cuts.now) table.now.boundaries weights)) }
+        → MatchOption result (IsEligible list table.now.boundaries factor (slice_index table.now.boundaries 0) horizon (drop 1 cuts.now)
+        → ⊥)
+        (λ n. IsEligible list table.now.boundaries factor (slice_index table.now.boundaries 0) horizon (drop 1 cuts.now)
+        × (n ≡ expected_cost list (slice_index table.now.boundaries 0) (drop 1 cuts.now) table.now.boundaries weights)) }
 {
     if cuts.len() == 2 {
         return Some(whole(table, &survey.sums));

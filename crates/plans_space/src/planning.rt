@@ -24,10 +24,15 @@ pub(crate) fn plan_by(
     table: &Table,
     survey: &Survey,
 ) -> Result<(Partition, u128), AllocError>
-    requires { (factor : Fraction) × (weights : List ℕ) × IsSurvey table.now factor survey.now.limits.unit survey.now.limits.budget weights survey.now.sums.items survey.now.places.items survey.now.cells.items }
+    requires { (factor : Fraction) × (weights : List ℕ)
+        × IsSurvey table.now factor survey.now.limits.unit survey.now.limits.budget weights survey.now.sums.items survey.now.places.items
+        survey.now.cells.items }
     ensures fits { IfOk result (λ p. IsFitting table.now.boundaries p.0) }
-    ensures best { (factor : Fraction) (weights : List ℕ) → IsSurvey table.now factor survey.now.limits.unit survey.now.limits.budget weights survey.now.sums.items survey.now.places.items survey.now.cells.items
-        → IfOk result (λ p. (list : List Posting) (horizon : ℕ) → Tabulates list horizon table.now → IsBestUnder list table.now.boundaries weights factor (slice_index p.0 0) horizon (drop 1 p.0)
+    ensures best { (factor : Fraction) (weights : List ℕ)
+        → IsSurvey table.now factor survey.now.limits.unit survey.now.limits.budget weights survey.now.sums.items survey.now.places.items
+        survey.now.cells.items
+        → IfOk result (λ p. (list : List Posting) (horizon : ℕ) → Tabulates list horizon table.now
+        → IsBestUnder list table.now.boundaries weights factor (slice_index p.0 0) horizon (drop 1 p.0)
         × (p.1 ≡ expected_cost list (slice_index p.0 0) (drop 1 p.0) table.now.boundaries weights)) }
 {
     let _times = table.boundaries();
@@ -49,9 +54,11 @@ pub fn plan<F: Fn(Span) -> u64>(
 ) -> Result<(Partition, u128), AllocError>
     requires weighs { Weighs (F.pre load.now) (F.post load.now) }
     ensures fits { IfOk result (λ p. IsFitting table.now.boundaries p.0) }
-    ensures capped { IfOk result (λ p. (list : List Posting) (horizon : ℕ) → Tabulates list horizon table.now → space list (slice_index p.0 0) (drop 1 p.0) ≤ cap factor (length list)) }
+    ensures capped { IfOk result (λ p. (list : List Posting) (horizon : ℕ) → Tabulates list horizon table.now
+        → space list (slice_index p.0 0) (drop 1 p.0) ≤ cap factor (length list)) }
     ensures best { IfOk result (λ p. (weights : List ℕ) × AreWeights (F.post load.now) table.now.boundaries weights
-        × ((list : List Posting) (horizon : ℕ) → Tabulates list horizon table.now → IsBestUnder list table.now.boundaries weights factor (slice_index p.0 0) horizon (drop 1 p.0)
+        × ((list : List Posting) (horizon : ℕ) → Tabulates list horizon table.now
+        → IsBestUnder list table.now.boundaries weights factor (slice_index p.0 0) horizon (drop 1 p.0)
         × (p.1 ≡ expected_cost list (slice_index p.0 0) (drop 1 p.0) table.now.boundaries weights))) }
 {
     let survey = survey_of(alloc, table, factor, load)?;
@@ -61,9 +68,14 @@ pub fn plan<F: Fn(Span) -> u64>(
 
 /// The points of a survey.
 fn front_by(alloc: Global, table: &Table, survey: &Survey) -> Result<Vec<Point>, AllocError>
-    requires { (factor : Fraction) × (weights : List ℕ) × IsSurvey table.now factor survey.now.limits.unit survey.now.limits.budget weights survey.now.sums.items survey.now.places.items survey.now.cells.items }
-    ensures { (factor : Fraction) (weights : List ℕ) → IsSurvey table.now factor survey.now.limits.unit survey.now.limits.budget weights survey.now.sums.items survey.now.places.items survey.now.cells.items
-        → IfOk result (λ v. (list : List Posting) (horizon : ℕ) → Tabulates list horizon table.now → IsFront list table.now.boundaries weights factor (slice_index table.now.boundaries 0) horizon v.items) }
+    requires { (factor : Fraction) × (weights : List ℕ)
+        × IsSurvey table.now factor survey.now.limits.unit survey.now.limits.budget weights survey.now.sums.items survey.now.places.items
+        survey.now.cells.items }
+    ensures { (factor : Fraction) (weights : List ℕ)
+        → IsSurvey table.now factor survey.now.limits.unit survey.now.limits.budget weights survey.now.sums.items survey.now.places.items
+        survey.now.cells.items
+        → IfOk result (λ v. (list : List Posting) (horizon : ℕ) → Tabulates list horizon table.now
+        → IsFront list table.now.boundaries weights factor (slice_index table.now.boundaries 0) horizon v.items) }
 {
     let _times = table.boundaries();
     let points = points_of(
@@ -86,7 +98,8 @@ pub fn front<F: Fn(Span) -> u64>(
 ) -> Result<Vec<Point>, AllocError>
     requires weighs { Weighs (F.pre load.now) (F.post load.now) }
     ensures { IfOk result (λ v. (weights : List ℕ) × AreWeights (F.post load.now) table.now.boundaries weights
-        × ((list : List Posting) (horizon : ℕ) → Tabulates list horizon table.now → IsFront list table.now.boundaries weights factor (slice_index table.now.boundaries 0) horizon v.items)) }
+        × ((list : List Posting) (horizon : ℕ) → Tabulates list horizon table.now
+        → IsFront list table.now.boundaries weights factor (slice_index table.now.boundaries 0) horizon v.items)) }
 {
     let survey = survey_of(alloc, table, factor, load)?;
     let points = front_by(alloc, table, &survey)?;

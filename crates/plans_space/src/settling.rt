@@ -20,7 +20,8 @@ pub(crate) fn settle(
     requires long { length sums.now ≡ length table.now.boundaries }
     requires rising { (j k : ℕ) → j ≤ k → k < length sums.now → slice_index sums.now j ≤ slice_index sums.now k }
     requires small { All (λ s. s ≤ 2 ^ 80) sums.now }
-    ensures { IfOk result (λ v. AreCells (leg_charge table.now limits.unit places.now) (leg_cost table.now sums.now places.now) (limits.budget + 1) v.items (length places.now)) }
+    ensures { IfOk result (λ v. AreCells (leg_charge table.now limits.unit places.now) (leg_cost table.now sums.now places.now)
+        (limits.budget + 1) v.items (length places.now)) }
 {
     let width = limits.budget + 1;
     // from the last stop nothing is left to pay

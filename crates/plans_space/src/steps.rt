@@ -148,8 +148,10 @@ fn lower_by(row: &mut [Option<u128>], cells: &[Option<u128>], legs: &Legs, j: us
     requires stops { length legs.now.costs.items ≤ 128 }
     requires small { All (λ w. w ≤ 2 ^ 118) legs.now.costs.items }
     requires cells { All (λ v. IfSome v (λ w. w ≤ 2 ^ 126)) cells.now }
-    ensures { (c : ℕ) → c < length row.old → IsLeastWay (through cells.now (length row.old) legs.now.charges.items legs.now.costs.items c) j (slice_index_or row.old c None)
-        → IsLeastWay (through cells.now (length row.old) legs.now.charges.items legs.now.costs.items c) (j + 1) (slice_index_or row.new c None) }
+    ensures { (c : ℕ) → c < length row.old
+        → IsLeastWay (through cells.now (length row.old) legs.now.charges.items legs.now.costs.items c) j (slice_index_or row.old c None)
+        → IsLeastWay (through cells.now (length row.old) legs.now.charges.items legs.now.costs.items c) (j + 1)
+        (slice_index_or row.new c None) }
 {
     let width = row.len();
     for c in 0..width {

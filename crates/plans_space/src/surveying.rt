@@ -36,7 +36,8 @@ fn survey_by(
 ) -> Result<Survey, AllocError>
     requires long { length weights.now + 1 ≡ length table.now.boundaries }
     requires few { All (λ w. w ≤ 2 ^ 40) weights.now }
-    ensures { IfOk result (λ s. IsSurvey table.now factor s.limits.unit s.limits.budget weights.now s.sums.items s.places.items s.cells.items) }
+    ensures { IfOk result (λ s. IsSurvey table.now factor s.limits.unit s.limits.budget weights.now s.sums.items s.places.items
+        s.cells.items) }
 {
     let times = table.boundaries();
     let limits = limits_of(factor, table.postings());
@@ -59,7 +60,8 @@ pub(crate) fn survey_of<F: Fn(Span) -> u64>(
     load: &Load<F>,
 ) -> Result<Survey, AllocError>
     requires weighs { Weighs (F.pre load.now) (F.post load.now) }
-    ensures { IfOk result (λ s. (weights : List ℕ) × AreWeights (F.post load.now) table.now.boundaries weights × IsSurvey table.now factor s.limits.unit s.limits.budget weights s.sums.items s.places.items s.cells.items) }
+    ensures { IfOk result (λ s. (weights : List ℕ) × AreWeights (F.post load.now) table.now.boundaries weights
+        × IsSurvey table.now factor s.limits.unit s.limits.budget weights s.sums.items s.places.items s.cells.items) }
 {
     let weights = weights_of(alloc, load, table.boundaries())?;
     survey_by(alloc, table, factor, &weights)
@@ -92,8 +94,11 @@ pub(crate) fn chosen(
     table: &Table,
     survey: &Survey,
 ) -> Result<(Vec<u64>, u128), AllocError>
-    requires { (factor : Fraction) × (weights : List ℕ) × IsSurvey table.now factor survey.now.limits.unit survey.now.limits.budget weights survey.now.sums.items survey.now.places.items survey.now.cells.items }
-    ensures { IfOk result (λ r. IsChosen table.now survey.now.limits.unit survey.now.limits.budget survey.now.sums.items survey.now.places.items survey.now.cells.items r.0.items r.1) }
+    requires { (factor : Fraction) × (weights : List ℕ)
+        × IsSurvey table.now factor survey.now.limits.unit survey.now.limits.budget weights survey.now.sums.items survey.now.places.items
+        survey.now.cells.items }
+    ensures { IfOk result (λ r. IsChosen table.now survey.now.limits.unit survey.now.limits.budget survey.now.sums.items
+        survey.now.places.items survey.now.cells.items r.0.items r.1) }
 {
     let times = table.boundaries();
     let whole = whole(table, &survey.sums);

@@ -48,10 +48,13 @@ score_if alive query often = if (alive && matches query often) then Some (score 
 
 -- f gives each document at each time its score by these facts
 abbrev pub IsScored : Query → List Fact → (ℕ → ℕ → Option ℕ) → Type 0
-IsScored query facts f = (d t : ℕ) → (often : List ℕ → ℕ) × TellWords query (hits_now t (filter (of_doc d) facts)) often × (f d t ≡ score_if (alive_now t (filter (of_doc d) facts)) query often)
+IsScored query facts f = (d t : ℕ) → (often : List ℕ → ℕ) × TellWords query (hits_now t (filter (of_doc d) facts)) often
+    × (f d t ≡ score_if (alive_now t (filter (of_doc d) facts)) query often)
 
 -- events inside [a, b): one where each fact begins there or holds already, and one where it ends
 pub record AreEvents (facts : List Fact) (a b : ℕ) (events : List Event) : Type 0 where
   pub inside : (x : Event) → Contains events x → (a ≤ x.at.seconds) × (x.at.seconds < b)
-  pub begun : (f : Fact) → Contains facts f → f.span.from < b → (x : Event) × Contains events x × (x.doc ≡ f.doc) × (x.at.seconds ≡ max f.span.from a)
-  pub ended : (f : Fact) → Contains facts f → a ≤ f.span.to → f.span.to < b → (x : Event) × Contains events x × (x.doc ≡ f.doc) × (x.at.seconds ≡ f.span.to)
+  pub begun : (f : Fact) → Contains facts f → f.span.from < b → (x : Event) × Contains events x × (x.doc ≡ f.doc)
+      × (x.at.seconds ≡ max f.span.from a)
+  pub ended : (f : Fact) → Contains facts f → a ≤ f.span.to → f.span.to < b → (x : Event) × Contains events x × (x.doc ≡ f.doc)
+      × (x.at.seconds ≡ f.span.to)

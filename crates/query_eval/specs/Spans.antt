@@ -10,7 +10,8 @@ use Rattle.query_eval.specs.declared.spans.SpanRow.{SpanRow}
 -- often each has each word then, is given.
 abbrev pub scored_at : (DocId → ℕ → Bool) → (DocId → ℕ → List ℕ → ℕ) → Query → ℕ → ℕ → Option ℕ
 scored_at alive often query d t =
-    if (alive (record { 0 = d }) t && matches query (often (record { 0 = d }) t)) then Some (score query (often (record { 0 = d }) t)) else None
+    if (alive (record { 0 = d }) t && matches query (often (record { 0 = d }) t)) then Some (score query (often (record { 0 = d }) t)) else
+    None
 
 -- a row as a stretch: the document has the score
 abbrev pub row_kind : Kind SpanRow ℕ

@@ -202,7 +202,8 @@ fn answer_over<F: Fn(DocId) -> bool>(
     requires sorted { IsNonDecreasingBy (λ h. h.doc.0) hits.now }
     ensures rows { IfOk result (λ a. (alive : DocValue → Bool) → AnswersAs (F.post is_alive) alive
         → (often : DocValue → List ℕ → ℕ) → Tell hits.now (words_of query.now) often
-        → AreWantedOf wanted (λ rows. IsAnswer (λ doc. Contains (map (λ h. h.doc) hits.now) doc × (alive doc ≡ true)) often query.now rows) a.rows.items) }
+        → AreWantedOf wanted (λ rows. IsAnswer (λ doc. Contains (map (λ h. h.doc) hits.now) doc × (alive doc ≡ true)) often query.now rows)
+        a.rows.items) }
     ensures read { IfOk result (λ a. a.read ≡ read_of parts.now) }
 {
     let mut counts = vec![in alloc; 0; query.words().len()]?;

@@ -69,7 +69,8 @@ pub(crate) fn hits_at(alloc: Global, parts: &[Part], t: Time) -> Result<Vec<Hit>
 /// How many hits are of documents before this one.
 fn first_of(hits: &[Hit], doc: DocId) -> usize
     ensures inside { result ≤ length hits.now }
-    ensures place { IsNonDecreasingBy (λ h. h.doc.0) hits.now → IsPartitionPoint (λ h. is_before doc.0 h ≡ true) (λ h. is_before doc.0 h ≡ false) hits.now result }
+    ensures place { IsNonDecreasingBy (λ h. h.doc.0) hits.now
+        → IsPartitionPoint (λ h. is_before doc.0 h ≡ true) (λ h. is_before doc.0 h ≡ false) hits.now result }
 {
     hits.partition_point(|h| h.doc < doc)
 }
@@ -77,7 +78,8 @@ fn first_of(hits: &[Hit], doc: DocId) -> usize
 /// How many hits are of documents up to this one.
 fn behind(hits: &[Hit], doc: DocId) -> usize
     ensures inside { result ≤ length hits.now }
-    ensures place { IsNonDecreasingBy (λ h. h.doc.0) hits.now → IsPartitionPoint (λ h. is_up_to doc.0 h ≡ true) (λ h. is_up_to doc.0 h ≡ false) hits.now result }
+    ensures place { IsNonDecreasingBy (λ h. h.doc.0) hits.now
+        → IsPartitionPoint (λ h. is_up_to doc.0 h ≡ true) (λ h. is_up_to doc.0 h ≡ false) hits.now result }
 {
     hits.partition_point(|h| h.doc <= doc)
 }

@@ -13,7 +13,7 @@ fn note_docs(docs: &mut Vec<DocId>, list: &[Posting], span: Span) -> Result<(), 
     ensures { OnOk result (docs.new.items ≡ docs.old.items ++ met_in span.from span.to list.now) }
 {
     for p in list {
-        if p.span.from < span.to && span.from < p.span.to {
+        if p.span.meets(span.from, span.to) {
             docs.push(p.doc)?;
         }
     }

@@ -46,4 +46,5 @@ made-letters (Either p q) qs =
     ∙ made-append (letters q) _ _ ∙ ap (made_by (false, (false, []))) (made-letters q (p ∷ qs))
 
 abbrev pub query_code : Coded Query
-query_code = code_by (List Letter) (coded_list (coded× coded_bool (coded× coded_bool (coded_list coded_ℕ)))) letters (λ ls. last_made (made ls [])) (λ q. ap last_made (made-letters q []))
+query_code = code_by (List Letter) (coded_list (coded× coded_bool (coded× coded_bool (coded_list coded_ℕ)))) letters
+    (λ ls. last_made (made ls [])) (λ q. ap last_made (made-letters q []))

@@ -52,7 +52,8 @@ pub(crate) fn evaluated(
 fn note(weights: &mut Vec<u32>, op: &Op<Spot>)
     requires { IsPlaced (length weights.old.items) op.now }
     ensures count { length weights.new.items ≡ length weights.old.items }
-    ensures weights { (k : ℕ) → k < length weights.old.items → slice_index weights.new.items k ≡ max (slice_index weights.old.items k) (most_at k (op.now ∷ [])) }
+    ensures weights { (k : ℕ) → k < length weights.old.items
+        → slice_index weights.new.items k ≡ max (slice_index weights.old.items k) (most_at k (op.now ∷ [])) }
 {
     if let Op::Push(spot, even) = op {
         if *even && weights[spot.place] < spot.weight {

@@ -34,7 +34,8 @@ pub record Keeps (at : ℕ) (s : Sheet) (d : ℕ) (lane : Lane) : Type 0 where
   pub covering : lane.cover ≤ length s.heads
   pub begun : (i : ℕ) → i < lane.opened → (get_or s.heads i no_head).first.0 ≤ d
   pub within : lane.opened ≤ length s.heads
-  pub tells : (x : ℕ) → d ≤ x → tally at x (drop lane.cursor lane.hits.items) ≡ tally at x (joined (take lane.opened s.blocks)) + tally at x s.flat
+  pub tells : (x : ℕ) → d ≤ x
+      → tally at x (drop lane.cursor lane.hits.items) ≡ tally at x (joined (take lane.opened s.blocks)) + tally at x s.flat
   pub ascending : AreAscending lane.hits.items
   pub ahead : (i : ℕ) → lane.opened ≤ i → i < length s.heads → Each (λ p. p.doc.0 ≤ (get_or s.heads i no_head).first.0) lane.hits.items
   pub flat_from : Each (λ p. (lane.flat_from ≤ p.doc.0) × (p.doc.0 < lane.flat_to)) s.flat
@@ -100,4 +101,5 @@ pub record IsOpened (old new : Lane) : Type 0 where
 pub record IsPassed (at end : ℕ) (old new : Lane) : Type 0 where
   pub same : new ≡ record old { cursor = new.cursor }
   pub cursor : new.cursor ≤ length old.hits.items
-  pub left : AreAscending old.hits.items → (x : ℕ) → end ≤ x → tally at x (drop new.cursor old.hits.items) ≡ tally at x (drop old.cursor old.hits.items)
+  pub left : AreAscending old.hits.items → (x : ℕ) → end ≤ x
+      → tally at x (drop new.cursor old.hits.items) ≡ tally at x (drop old.cursor old.hits.items)

@@ -52,9 +52,11 @@ pub record HasShown (at : ℕ) (sheets : List Sheet) (rows : List Row) (o : Open
 
 -- What was opened for some rows: each of these blocks, in order, none twice, none that is needless, and each that has a posting of a document
 -- that is shown.
-pub record HasOpened {S E : Type 0} (call : Call S E) (at : ℕ) (weights : List ℕ) (sheets : List Sheet) (count : ℕ) (rows : List Row) (old new : S) : Type 0 where
+pub record HasOpened {S E : Type 0} (call : Call S E) (at : ℕ) (weights : List ℕ) (sheets : List Sheet) (count : ℕ) (rows : List Row)
+    (old new : S) : Type 0 where
   pub os : List Opened
   pub opens : Opens call old os new
   pub distinct : AreDistinct os
-  pub wanted : Each (λ o. AreEnough (score at weights sheets) count (head_at sheets o.word o.block).first.0 (bound weights sheets (head_at sheets o.word o.block)) → ⊥) os
+  pub wanted : Each (λ o. AreEnough (score at weights sheets) count (head_at sheets o.word o.block).first.0
+      (bound weights sheets (head_at sheets o.word o.block)) → ⊥) os
   pub shown : (o : Opened) → HasShown at sheets rows o → Contains os o

@@ -128,7 +128,8 @@ pub(crate) fn survey<B: Blocks>(lanes: &mut [Lane], blocks: &B, d: u64) -> View
     ensures fit { AreFit (B.sheets blocks.now) lanes.new }
     ensures weights { weights_of lanes.new ≡ weights_of lanes.old }
     ensures opened { (word : ℕ) → opened_at lanes.new word ≡ opened_at lanes.old word }
-    ensures lies { (at : ℕ) → Each (IsSheet at) (B.sheets blocks.now) → Lie at d (B.sheets blocks.now) lanes.old → Lie at d (B.sheets blocks.now) lanes.new }
+    ensures lies { (at : ℕ) → Each (IsSheet at) (B.sheets blocks.now) → Lie at d (B.sheets blocks.now) lanes.old
+        → Lie at d (B.sheets blocks.now) lanes.new }
     ensures top { result.top ≡ weighted (λ l. l.top) lanes.new }
     ensures border { Each (λ l. (result.border ≤ l.border) × (result.start ≤ l.start)) lanes.new }
     ensures far { (d < result.border) × (result.border ≤ result.start) × (result.start ≤ 2 ^ 32) }
@@ -157,7 +158,8 @@ pub(crate) fn open_all<B: Blocks>(
     ensures opens { OnOk result (Opens B.opens blocks.old (runs 0 lanes.old) blocks.new) }
     ensures fault { (e : _) → IsErrOf result (TopError.Blocks e) → OpensToFault B.opens blocks.old e blocks.new }
     ensures opened { OnOk result (AllZip IsOpened lanes.old lanes.new) }
-    ensures lies { (at d : ℕ) → Each (IsSheet at) (B.sheets blocks.old) → Each (λ l. d < l.border) lanes.old → Lie at d (B.sheets blocks.old) lanes.old
+    ensures lies { (at d : ℕ) → Each (IsSheet at) (B.sheets blocks.old) → Each (λ l. d < l.border) lanes.old
+        → Lie at d (B.sheets blocks.old) lanes.old
         → OnOk result (Lie at d (B.sheets blocks.old) lanes.new) }
 {
     let mut word = 0;

@@ -85,7 +85,8 @@ fn end_of(heads: &[BlockHead], cover: usize, after: usize) -> u64
 /// Adds what a posting gives its document, which is one from `from` on, or a passed one.
 fn put(weight: u64, p: &Posting, at: Time, from: u64, sums: &mut [u64])
     requires { p.now.doc.0 < from + length sums.old }
-    ensures { (k : ℕ) → k < length sums.old → slice_index sums.old k + weight * tally at.seconds (from + k) (p.now ∷ []) < 2 ^ 64 → slice_index sums.new k ≡ slice_index sums.old k + weight * tally at.seconds (from + k) (p.now ∷ []) }
+    ensures { (k : ℕ) → k < length sums.old → slice_index sums.old k + weight * tally at.seconds (from + k) (p.now ∷ []) < 2 ^ 64
+        → slice_index sums.new k ≡ slice_index sums.old k + weight * tally at.seconds (from + k) (p.now ∷ []) }
 {
     let doc = u64::from(p.doc.0);
     if doc < from {
@@ -103,7 +104,8 @@ impl Lane {
     /// that are passed.
     pub(crate) fn move_to(&mut self, heads: &[BlockHead], d: u64)
         requires { IsFit (length heads.now) self.old }
-        ensures lies { (at : ℕ) (s : Sheet) → heads.now ≡ s.heads → IsSheet at s → d < 2 ^ 32 → Lies at s d self.old → Lies at s d self.new }
+        ensures lies { (at : ℕ) (s : Sheet) → heads.now ≡ s.heads → IsSheet at s → d < 2 ^ 32 → Lies at s d self.old
+            → Lies at s d self.new }
         ensures far { d < 2 ^ 32 → d < self.new.border }
         ensures fit { IsFit (length heads.now) self.new }
         ensures weight { self.new.weight ≡ self.old.weight }
@@ -156,10 +158,12 @@ impl Lane {
         requires cursor { self.old.cursor ≤ length self.old.hits.items }
         requires near { from + length sums.old < 2 ^ 63 }
         ensures sums { AreAscending self.old.hits.items → (k : ℕ) → k < length sums.old
-            → slice_index sums.old k + self.old.weight * tally at.seconds (from + k) (drop self.old.cursor self.old.hits.items) < 2 ^ 64 → slice_index sums.new k
+            → slice_index sums.old k + self.old.weight * tally at.seconds (from + k) (drop self.old.cursor self.old.hits.items) < 2 ^ 64
+            → slice_index sums.new k
             ≡ slice_index sums.old k + self.old.weight * tally at.seconds (from + k) (drop self.old.cursor self.old.hits.items) }
         ensures left { AreAscending self.old.hits.items → (x : ℕ) → from + length sums.old ≤ x
-            → tally at.seconds x (drop self.new.cursor self.old.hits.items) ≡ tally at.seconds x (drop self.old.cursor self.old.hits.items) }
+            → tally at.seconds x (drop self.new.cursor self.old.hits.items)
+            ≡ tally at.seconds x (drop self.old.cursor self.old.hits.items) }
         ensures cursor { self.new.cursor ≤ length self.old.hits.items }
         ensures same { self.new ≡ record self.old { cursor = self.new.cursor } }
     {

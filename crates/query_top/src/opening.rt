@@ -16,9 +16,14 @@ impl Lane {
         requires cursor { self.old.cursor ≤ length self.old.hits.items }
         requires more { self.old.opened < self.old.after }
         ensures cursor { OnOk result (self.new.cursor ≤ length self.new.hits.items) }
-        ensures hits { OnOk result (((self.new.hits.items ≡ postings.items) × (self.new.cursor ≡ 0) × (self.old.cursor ≡ length self.old.hits.items))
+        ensures hits { OnOk result
+            (((self.new.hits.items ≡ postings.items) × (self.new.cursor ≡ 0) × (self.old.cursor ≡ length self.old.hits.items))
             ⊎ ((self.new.hits.items ≡ self.old.hits.items ++ postings.items) × (self.new.cursor ≡ self.old.cursor))) }
-        ensures same { OnOk result (self.new ≡ record self.old { opened = self.old.opened + 1; hits = self.new.hits; cursor = self.new.cursor }) }
+        ensures same { OnOk result (self.new ≡ record self.old {
+          opened = self.old.opened + 1;
+          hits = self.new.hits;
+          cursor = self.new.cursor;
+        }) }
     {
         if self.cursor == self.hits.len() {
             self.hits = postings;
@@ -55,7 +60,8 @@ pub(crate) fn open_covering<B: Blocks>(
     ensures fault { (e : _) → IsErrOf result (TopError.Blocks e) → OpensToFault B.opens blocks.old e blocks.new }
     ensures same { OnOk result (lane.new ≡ record lane.old { opened = lane.new.opened; hits = lane.new.hits; cursor = lane.new.cursor }) }
     ensures cursor { OnOk result (lane.new.cursor ≤ length lane.new.hits.items) }
-    ensures keeps { (at d : ℕ) → let s = sheet_at (B.sheets blocks.old) word in IsSheet at s → d < lane.old.border → Keeps at s d lane.old → Stands at s d lane.old
+    ensures keeps { (at d : ℕ) → let s = sheet_at (B.sheets blocks.old) word in IsSheet at s → d < lane.old.border → Keeps at s d lane.old
+        → Stands at s d lane.old
         → OnOk result (Keeps at s d lane.new × Stands at s d lane.new) }
     ensures opened { OnOk result (lane.new.opened ≡ max (max lane.old.opened lane.old.cover) lane.old.after) }
 {

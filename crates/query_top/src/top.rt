@@ -37,9 +37,11 @@ fn offer_all(rows: &mut Vec<Row>, count: usize, from: u64, sums: &[u64]) -> Resu
     requires few { length rows.old.items ≤ count }
     requires near { from + length sums.now ≤ 2 ^ 32 }
     ensures few { OnOk result (length rows.new.items ≤ count) }
-    ensures first { (of : ℕ → ℕ) → ((k : ℕ) → k < length sums.now → of (from + k) ≡ slice_index sums.now k) → AreFirst (below from of) count rows.old.items
+    ensures first { (of : ℕ → ℕ) → ((k : ℕ) → k < length sums.now → of (from + k) ≡ slice_index sums.now k)
+        → AreFirst (below from of) count rows.old.items
         → OnOk result (AreFirst (below (from + length sums.now) of) count rows.new.items) }
-    ensures shown { OnOk result ((x : ℕ) → shows rows.new.items x ≡ true → (shows rows.old.items x ≡ true) ⊎ ((from ≤ x) × (x < from + length sums.now))) }
+    ensures shown { OnOk result ((x : ℕ) → shows rows.new.items x ≡ true → (shows rows.old.items x ≡ true)
+        ⊎ ((from ≤ x) × (x < from + length sums.now))) }
 {
     for k in 0..sums.len() {
         offer(rows, count, (from + k as u64) as u32, sums[k])?;
@@ -64,9 +66,11 @@ fn score_all(
     ensures few { OnOk result (length rows.new.items ≤ count) }
     ensures passed { OnOk result (AllZip (IsPassed at.seconds (from + length sums.old)) lanes.old lanes.new) }
     ensures first { (of : ℕ → ℕ) → Each (λ l. AreAscending l.hits.items) lanes.old
-        → ((k : ℕ) → k < length sums.old → (of (from + k) ≡ given at.seconds (from + k) lanes.old) × (of (from + k) < 2 ^ 64)) → AreFirst (below from of) count rows.old.items
+        → ((k : ℕ) → k < length sums.old → (of (from + k) ≡ given at.seconds (from + k) lanes.old) × (of (from + k) < 2 ^ 64))
+        → AreFirst (below from of) count rows.old.items
         → OnOk result (AreFirst (below (from + length sums.old) of) count rows.new.items) }
-    ensures shown { OnOk result ((x : ℕ) → shows rows.new.items x ≡ true → (shows rows.old.items x ≡ true) ⊎ ((from ≤ x) × (x < from + length sums.old))) }
+    ensures shown { OnOk result ((x : ℕ) → shows rows.new.items x ≡ true → (shows rows.old.items x ≡ true)
+        ⊎ ((from ≤ x) × (x < from + length sums.old))) }
 {
     sums.fill(0);
     add_all(lanes, at, from, sums);
@@ -98,7 +102,8 @@ fn step<B: Blocks>(
     ensures fit { OnOk result (AreFit (B.sheets blocks.old) lanes.new) }
     ensures weights { OnOk result (weights_of lanes.new ≡ weights_of lanes.old) }
     ensures through { IfOk result (λ e. (more : List Opened) × Opens B.opens blocks.old more blocks.new
-        × ((os : List Opened) → Each (IsSheet at.seconds) (B.sheets blocks.old) → AreThrough at.seconds (weights_of lanes.old) (B.sheets blocks.old) count d lanes.old rows.old.items os
+        × ((os : List Opened) → Each (IsSheet at.seconds) (B.sheets blocks.old)
+        → AreThrough at.seconds (weights_of lanes.old) (B.sheets blocks.old) count d lanes.old rows.old.items os
         → AreThrough at.seconds (weights_of lanes.old) (B.sheets blocks.old) count e lanes.new rows.new.items (os ++ more))) }
 {
     let view = survey(lanes, blocks, d);
@@ -130,7 +135,8 @@ fn search<B: Blocks>(
     ensures sheets { B.sheets blocks.new ≡ B.sheets blocks.old }
     ensures fault { (e : _) → IsErrOf result (TopError.Blocks e) → OpensToFault B.opens blocks.old e blocks.new }
     ensures through { OnOk result ((os : List Opened) × Opens B.opens blocks.old os blocks.new
-        × (Each (IsSheet at.seconds) (B.sheets blocks.old) → AreThrough at.seconds (weights_of lanes.old) (B.sheets blocks.old) count 0 lanes.old rows.old.items []
+        × (Each (IsSheet at.seconds) (B.sheets blocks.old)
+        → AreThrough at.seconds (weights_of lanes.old) (B.sheets blocks.old) count 0 lanes.old rows.old.items []
         → AreThrough at.seconds (weights_of lanes.old) (B.sheets blocks.old) count (2 ^ 32) lanes.new rows.new.items os)) }
 {
     let mut d = 0;
@@ -156,8 +162,10 @@ pub fn top_rows<B: Blocks>(
     requires count { 1 ≤ count }
     ensures sheets { B.sheets blocks.new ≡ B.sheets blocks.old }
     // Where the headers are true: they are the first rows, and these blocks were opened.
-    ensures first { Each (IsSheet at.seconds) (B.sheets blocks.old) → IfOk result (λ rows. AreFirst (score at.seconds weights.now (B.sheets blocks.old)) count rows.items) }
-    ensures opened { Each (IsSheet at.seconds) (B.sheets blocks.old) → IfOk result (λ rows. HasOpened B.opens at.seconds weights.now (B.sheets blocks.old) count rows.items blocks.old blocks.new) }
+    ensures first { Each (IsSheet at.seconds) (B.sheets blocks.old)
+        → IfOk result (λ rows. AreFirst (score at.seconds weights.now (B.sheets blocks.old)) count rows.items) }
+    ensures opened { Each (IsSheet at.seconds) (B.sheets blocks.old)
+        → IfOk result (λ rows. HasOpened B.opens at.seconds weights.now (B.sheets blocks.old) count rows.items blocks.old blocks.new) }
     // And whatever they are: what the openings that were made lead to, one after another.
     ensures calls { OnOk result ((os : List Opened) × Opens B.opens blocks.old os blocks.new) }
     ensures fault { (e : _) → IsErrOf result (TopError.Blocks e) → OpensToFault B.opens blocks.old e blocks.new }

@@ -48,7 +48,8 @@ fn examined<D: Disk>(alloc: Global, disk: &mut D, archive: &Opened) -> Result<Fi
     ensures same { OnlyReads (D.disk disk.old) (D.disk disk.new) }
     ensures failed { IsErrOf result AuditStatus.Disk → Rose (D.disk disk.old).faults (D.disk disk.new).faults }
     ensures early { IfErr result (λ status. (status ≡ AuditStatus.Disk) ⊎ (status ≡ AuditStatus.Memory)) }
-    ensures examined { D.disk_tells → (h : History) → IsOpened h (D.disk disk.old).reach archive.now → IfOk result (IsExamined h (D.disk disk.old).holds) }
+    ensures examined { D.disk_tells → (h : History) → IsOpened h (D.disk disk.old).reach archive.now
+        → IfOk result (IsExamined h (D.disk disk.old).holds) }
 {
     let plans = archive.shelf.plans();
     match verify_with_digests(alloc, disk, &archive.journal, &archive.directory, plans) {

@@ -64,12 +64,15 @@ fn opened_by<D: Disk>(
     ensures failed { IsErrOf result LoadError.Failed → Rose (D.disk disk.old).faults (D.disk disk.new).faults }
     ensures opened { IfOk result (λ a. (h : History) × IsOpened h (D.disk disk.new).reach a) }
     // Where the journal spells the bodies that lie there: what it answers is so of any image that spells them and whose pages are as long.
-    ensures not_archive { D.disk_tells → (bodies : List (List ℕ)) → heads.now ≡ heads_of first_gate bodies → Spells (D.disk disk.old).holds.journal bodies →
+    ensures not_archive { D.disk_tells → (bodies : List (List ℕ)) → heads.now ≡ heads_of first_gate bodies
+        → Spells (D.disk disk.old).holds.journal bodies →
         (image : Bytes) → Spells image.journal bodies → length image.pages ≡ (D.disk disk.old).reach.pages →
         (at : ℕ) → IsErrOf result (LoadError.NotArchive at) → IsNotArchive image at }
-    ensures found { D.disk_tells → (bodies : List (List ℕ)) → heads.now ≡ heads_of first_gate bodies → Spells (D.disk disk.old).holds.journal bodies →
+    ensures found { D.disk_tells → (bodies : List (List ℕ)) → heads.now ≡ heads_of first_gate bodies
+        → Spells (D.disk disk.old).holds.journal bodies →
         IfOk result (λ a. (h : History) × (IsOpened h (D.disk disk.new).reach a × (bodies_of h ≡ bodies))) }
-    ensures exact { D.disk_tells → (bodies : List (List ℕ)) → heads.now ≡ heads_of first_gate bodies → Spells (D.disk disk.old).holds.journal bodies →
+    ensures exact { D.disk_tells → (bodies : List (List ℕ)) → heads.now ≡ heads_of first_gate bodies
+        → Spells (D.disk disk.old).holds.journal bodies →
         (image : Bytes) → Spells image.journal bodies → length image.pages ≡ (D.disk disk.old).reach.pages →
         OnOk result ((at : ℕ) → IsNotArchive image at → ⊥) }
 {

@@ -43,7 +43,8 @@ pub fn audit<M: Machine>(alloc: Global, words: &[String], machine: &mut M) -> Au
     ensures disk_fault { result ≡ AuditStatus.Disk → Rose (M.disk machine.old).faults (M.disk machine.new).faults }
     ensures sink_fault { result ≡ AuditStatus.Sink → Rose (M.sink machine.old).faults (M.sink machine.new).faults }
     // It reads alone, and then shows; nothing is pulled.
-    ensures reads { (read : M) × (M.Disk.only machine.old read × OnlyReads (M.disk machine.old) (M.disk read) × M.Sink.only read machine.new) }
+    ensures reads { (read : M)
+        × (M.Disk.only machine.old read × OnlyReads (M.disk machine.old) (M.disk read) × M.Sink.only read machine.new) }
     ensures unpulled { M.source machine.new ≡ M.source machine.old }
     // So no length, no byte and no image changes, on any disk, at any moment.
     ensures left_alone { IsLeftAlone (M.disk machine.old) (M.disk machine.new) }
@@ -57,12 +58,14 @@ pub fn audit<M: Machine>(alloc: Global, words: &[String], machine: &mut M) -> Au
     // digest, and the status is 0 where that is that all is sound. Where the sink failed it was a part of the line; elsewhere nothing.
     ensures audited { M.sink_tells → M.disk_tells → (result ≡ AuditStatus.Sound) ⊎ (result ≡ AuditStatus.Faulty) →
         IsAudited (M.disk machine.old).holds result (M.sink machine.old).shown (M.sink machine.new).shown }
-    ensures cut_off { M.sink_tells → M.disk_tells → result ≡ AuditStatus.Sink → IsCutOff (M.disk machine.old).holds (M.sink machine.old).shown (M.sink machine.new).shown }
+    ensures cut_off { M.sink_tells → M.disk_tells → result ≡ AuditStatus.Sink
+        → IsCutOff (M.disk machine.old).holds (M.sink machine.old).shown (M.sink machine.new).shown }
     ensures unshown { ShowsNothing result → M.sink machine.new ≡ M.sink machine.old }
     // At status 0 the bytes stand for a history: the journal spells it, a load accepts it, and the pages hold each live plan's sublists.
     ensures whole { M.disk_tells → result ≡ AuditStatus.Sound → IsWhole (M.disk machine.old).holds }
     // Of bytes that stand for a history in which each plan is what its kind promises, no fault is told.
-    ensures no_false_alarm { M.disk_tells → (h : History) → IsLegal h → Stands h (M.disk machine.old).holds → result ≡ AuditStatus.Faulty → ⊥ }
+    ensures no_false_alarm { M.disk_tells → (h : History) → IsLegal h → Stands h (M.disk machine.old).holds → result ≡ AuditStatus.Faulty
+        → ⊥ }
     // Where nothing is wrong with the machine, an archive has its verdict, unless memory runs out.
     ensures complete { M.disk_tells → length words.now ≡ 0 →
         ((at : ℕ) → IsNotArchive (M.disk machine.old).holds at → ⊥) →

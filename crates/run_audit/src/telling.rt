@@ -17,9 +17,12 @@ pub(crate) fn tell<K: Sink>(alloc: Global, sink: &mut K, finding: &Finding) -> A
     ensures ends { (result ≡ status_of_finding finding.now) ⊎ ((result ≡ AuditStatus.Sink) ⊎ (result ≡ AuditStatus.Memory)) }
     ensures failed { result ≡ AuditStatus.Sink → Rose (K.sink sink.old).faults (K.sink sink.new).faults }
     ensures unshown { result ≡ AuditStatus.Memory → sink.new ≡ sink.old }
-    ensures whole { K.sink_tells → result ≡ status_of_finding finding.now → (K.sink sink.new).shown ≡ (K.sink sink.old).shown ++ finding_text finding.now }
-    ensures front { K.sink_tells → result ≡ AuditStatus.Sink → IsPrefix (K.sink sink.new).shown ((K.sink sink.old).shown ++ finding_text finding.now) }
-    ensures short { K.sink_tells → result ≡ AuditStatus.Sink → length (K.sink sink.new).shown < length (K.sink sink.old).shown + length (finding_text finding.now) }
+    ensures whole { K.sink_tells → result ≡ status_of_finding finding.now
+        → (K.sink sink.new).shown ≡ (K.sink sink.old).shown ++ finding_text finding.now }
+    ensures front { K.sink_tells → result ≡ AuditStatus.Sink
+        → IsPrefix (K.sink sink.new).shown ((K.sink sink.old).shown ++ finding_text finding.now) }
+    ensures short { K.sink_tells → result ≡ AuditStatus.Sink
+        → length (K.sink sink.new).shown < length (K.sink sink.old).shown + length (finding_text finding.now) }
 {
     let Ok(mut page) = ReplyPage::new(alloc) else {
         return AuditStatus::Memory;

@@ -62,7 +62,8 @@ EndsIn before outcome new archive_now (Err (errors.Damaged damage)) = ⊥
 EndsIn before outcome new archive_now (Err errors.Memory) = EachStands new before
 
 -- One command carried out: it has an outcome of the abstract archive. Each image left since the start stands for the history before the outcome or after it.
-pub record CarriesOut (history : History) (command : Command) (result : Result Note FillError) (old new : DiskState) (archive_now : ArchiveState) : Type 0 where
+pub record CarriesOut (history : History) (command : Command) (result : Result Note FillError) (old new : DiskState)
+    (archive_now : ArchiveState) : Type 0 where
   pub outcome : Outcome Reply World
   pub step : Step (world_of history) (items.Command command) outcome.reply outcome.next
   pub leads : LeadsTo history outcome.next.history old new
@@ -79,7 +80,8 @@ ComesToCheck rest last = ((front : List Command) × (rest ≡ front ++ plain.Ver
 
 -- Of these commands all but the rest are carried out, from this state on, and these are their outcomes. The archive is in step with its disk
 -- after the last of them.
-pub record Goes (world : World) (commands rest : List Command) (outcomes : List (Outcome Reply World)) (old now : DiskState) (archive : ArchiveState) : Type 0 where
+pub record Goes (world : World) (commands rest : List Command) (outcomes : List (Outcome Reply World)) (old now : DiskState)
+    (archive : ArchiveState) : Type 0 where
   pub done : List Command
   pub commands_are : commands ≡ done ++ rest
   pub run : IsRun Step world (map items.Command done) outcomes
@@ -87,7 +89,8 @@ pub record Goes (world : World) (commands rest : List Command) (outcomes : List 
   pub in_step : AreInStep now archive (last_state world outcomes).history
 
 -- the same, and what was counted of the outcomes
-pub record Counts (world : World) (commands rest : List Command) (tally : Tally) (last : Option Verdict) (old now : DiskState) (archive : ArchiveState) : Type 0 where
+pub record Counts (world : World) (commands rest : List Command) (tally : Tally) (last : Option Verdict) (old now : DiskState)
+    (archive : ArchiveState) : Type 0 where
   pub outcomes : List (Outcome Reply World)
   pub goes : Goes world commands rest outcomes old now archive
   pub tally_is : tally ≡ tally_of (replies_of outcomes)

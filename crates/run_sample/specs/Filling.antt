@@ -39,13 +39,16 @@ pub record Fills (world : World) (outcomes : List (Outcome Reply World)) (old ne
 -- At Ok the report is that of the outcomes, and the archive stands for the last history; where memory ran out, each image stands for one history of
 -- the run. Nothing is damaged.
 abbrev pub EndsFilled : World → List (Outcome Reply World) → DiskState → ArchiveState → Result Report FillError → Type 0
-EndsFilled world outcomes new archive_now (Ok report) = IsReport (replies_of outcomes) report × AreInStep new archive_now (last_state world outcomes).history
+EndsFilled world outcomes new archive_now (Ok report) = IsReport (replies_of outcomes) report
+    × AreInStep new archive_now (last_state world outcomes).history
 EndsFilled world outcomes new archive_now (Err errors.Failed) = Unit {0}
 EndsFilled world outcomes new archive_now (Err (errors.Damaged damage)) = ⊥
-EndsFilled world outcomes new archive_now (Err errors.Memory) = (j : ℕ) × (j ≤ length outcomes) × EachStands new (state_after world outcomes j).history
+EndsFilled world outcomes new archive_now (Err errors.Memory) = (j : ℕ) × (j ≤ length outcomes)
+    × EachStands new (state_after world outcomes j).history
 
 -- One run of the abstract archive from the history over these commands, carried out up to the result.
-pub record IsFilled (history : History) (commands : List Command) (result : Result Report FillError) (old new : DiskState) (archive_now : ArchiveState) : Type 0 where
+pub record IsFilled (history : History) (commands : List Command) (result : Result Report FillError) (old new : DiskState)
+    (archive_now : ArchiveState) : Type 0 where
   pub outcomes : List (Outcome Reply World)
   pub run : IsRun Step (world_of history) (map items.Command commands) outcomes
   pub fills : Fills (world_of history) outcomes old new

@@ -10,7 +10,8 @@ use Rattle.run_sample.specs.declared.report.Report.{Report}
 
 -- A run over the commands of a sample has a report, from whatever state: its last command is a check.
 abbrev pub RunsHaveReports : Type 0
-RunsHaveReports = (seed count : ℕ) (world : World) (outcomes : List (Outcome Reply World)) → IsRun Step world (map items.Command (sample_of seed count)) outcomes
+RunsHaveReports = (seed count : ℕ) (world : World) (outcomes : List (Outcome Reply World))
+    → IsRun Step world (map items.Command (sample_of seed count)) outcomes
     → (report : Report) × IsReport (replies_of outcomes) report
 
 -- Replies have one report at most.

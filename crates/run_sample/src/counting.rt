@@ -19,7 +19,8 @@ pub(crate) const NOTHING: Tally = Tally {
 /// The counts with the note of one command more. It is `Memory` where a count would pass
 /// 2^64 - 1. Constant cost.
 pub(crate) fn with_note(tally: Tally, note: &Note) -> Result<Tally, FillError>
-    ensures counts { (replies : List Reply) (reply : Reply) → tally ≡ tally_of replies → IsTold reply (Ok note.now) → IfOk result (λ t. t ≡ tally_of (replies ++ reply ∷ [])) }
+    ensures counts { (replies : List Reply) (reply : Reply) → tally ≡ tally_of replies → IsTold reply (Ok note.now)
+        → IfOk result (λ t. t ≡ tally_of (replies ++ reply ∷ [])) }
     ensures full { IfErr result (λ error. error ≡ FillError.Memory) }
 {
     match note {

@@ -44,4 +44,5 @@ pub record IsLeft (tells : Type 0) (old new : DiskState) (archive archive_now : 
 
 -- A load led from that disk to this one, with these bytes shown: nothing was shown, and where each image stood for no entry, each left since does.
 abbrev pub IsLoaded : List ℕ → DiskState → DiskState → Type 0
-IsLoaded shown began loaded = (began.now.beside ≡ shown) × (loaded.now.beside ≡ shown) × GoesOn began loaded × (EachStands began [] → KeepsHistory [] began loaded)
+IsLoaded shown began loaded = (began.now.beside ≡ shown) × (loaded.now.beside ≡ shown) × GoesOn began loaded
+    × (EachStands began [] → KeepsHistory [] began loaded)

@@ -61,7 +61,8 @@ pub record Ends (status : Status) (old new : SourceState) : Type 0 where
 
 -- A pull comes after the replies: no whole item waited for its own. What had been pulled by then is some of the items and a rest that begins with no
 -- whole one, and the replies to all of these had been shown.
-pub record ComesAfterReplies {S : Type 0} (input : SourceState) (output : SinkState) (items : List Item) (outcomes : List (Outcome Reply S)) (pull : Pull) : Type 0 where
+pub record ComesAfterReplies {S : Type 0} (input : SourceState) (output : SinkState) (items : List Item) (outcomes : List (Outcome Reply S))
+    (pull : Pull) : Type 0 where
   pub pulled : List ℕ
   pub pulled_are : input.left ≡ pulled ++ pull.left
   pub before : List Item
@@ -76,7 +77,8 @@ pub record ComesAfterReplies {S : Type 0} (input : SourceState) (output : SinkSt
   pub shown : pull.shown ≡ output.shown ++ shown_by reply_text answered
 
 -- One run of a machine from this state over the items of the bytes pulled, as far as they were reached, and what was shown of it.
-pub record Ran {S : Type 0} (step : S → Item → Reply → S → Type 0) (state : S) (status : Status) (input input_now : SourceState) (output output_now : SinkState) (pulls : List Pull) : Type 0 where
+pub record Ran {S : Type 0} (step : S → Item → Reply → S → Type 0) (state : S) (status : Status) (input input_now : SourceState)
+    (output output_now : SinkState) (pulls : List Pull) : Type 0 where
   -- the bytes pulled, and whether the end of the input was told
   pub pulled : List ℕ
   pub pulled_are : input.left ≡ pulled ++ input_now.left
@@ -99,7 +101,8 @@ pub record Ran {S : Type 0} (step : S → Item → Reply → S → Type 0) (stat
   pub all : CarriesOutAll status → behind ≡ []
   pub whole : CarriesOutAll status → shown ≡ shown_by reply_text outcomes
   -- a fault of the disk or the sink leaves a reply unshown, or an item that wasn't reached, or came before anything was pulled
-  pub unfinished : (status ≡ Disk) ⊎ (status ≡ Sink) → (pulled ≡ []) ⊎ ((behind ≡ [] → ⊥) ⊎ (length shown < length (shown_by reply_text outcomes)))
+  pub unfinished : (status ≡ Disk) ⊎ (status ≡ Sink) → (pulled ≡ [])
+      ⊎ ((behind ≡ [] → ⊥) ⊎ (length shown < length (shown_by reply_text outcomes)))
   -- each pull was made when the replies to all items that were whole by then had been shown
   pub after_replies : All (ComesAfterReplies input output (reached ++ behind) outcomes) pulls
 
@@ -108,16 +111,19 @@ abbrev pub EachOf : {S : Type 0} → (S → Bytes → Type 0) → DiskState → 
 EachOf stands d state = (image : Bytes) → MayLeave d.now image → stands state image
 
 -- A run from this state: its status, the machine before and after, and the pulls among its calls.
-pub record Headline {S : Type 0} (step : S → Item → Reply → S → Type 0) (stands : S → Bytes → Type 0) (state : S) (status : Status) (old new : MachineState) (pulls : List Pull) : Type 0 where
+pub record Headline {S : Type 0} (step : S → Item → Reply → S → Type 0) (stands : S → Bytes → Type 0) (state : S) (status : Status)
+    (old new : MachineState) (pulls : List Pull) : Type 0 where
   pub ran : Ran step state status old.source new.source old.sink new.sink pulls
   -- each image left since, with the bytes shown then, stands for the state after as many outcomes as these acknowledge, or one more
   pub images : EachOf stands old.disk state → LeavesOnly old.disk new.disk (Reopens reply_text stands state ran.outcomes old.sink.shown)
   -- where all items are carried out, each image stands for the last state
   pub last : CarriesOutAll status → EachOf stands new.disk (state_after state ran.outcomes (length ran.outcomes))
   -- where the disk didn't fail, all images stand for one state
-  pub steady : EachOf stands old.disk state → (status ≡ Disk → ⊥) → (j : ℕ) × (j ≤ length ran.outcomes) × EachOf stands new.disk (state_after state ran.outcomes j)
+  pub steady : EachOf stands old.disk state → (status ≡ Disk → ⊥) → (j : ℕ) × (j ≤ length ran.outcomes)
+      × EachOf stands new.disk (state_after state ran.outcomes j)
   -- where memory ran out, each image stands for the state after just as many outcomes as the bytes shown acknowledge
-  pub starved : EachOf stands old.disk state → status ≡ Memory → (k : ℕ) × IsAcknowledged reply_text ran.outcomes ran.shown k × EachOf stands new.disk (state_after state ran.outcomes k)
+  pub starved : EachOf stands old.disk state → status ≡ Memory → (k : ℕ) × IsAcknowledged reply_text ran.outcomes ran.shown k
+      × EachOf stands new.disk (state_after state ran.outcomes k)
 
 -- On a disk that stands for a history: one run of the abstract archive over all items of the bytes pulled; and no sublist is damaged.
 pub record StandingRun (history : History) (status : Status) (old new : MachineState) (pulls : List Pull) : Type 0 where
@@ -130,7 +136,8 @@ pub record StandingRun (history : History) (status : Status) (old new : MachineS
 -- state says: each query asks for just the pages of the lists that are chosen for it.
 pub record ReadingRun (store : Store) (status : Status) (old new : MachineState) (pulls : List Pull) : Type 0 where
   pub headline : Headline StoreStep StandsBy store status old new pulls
-  pub damaged : (damage : Damage) → status ≡ Damaged damage → (item : Item) × (rest : List Item) × (headline.ran.behind ≡ item ∷ rest) × Spoils (last_state store headline.ran.outcomes) item damage
+  pub damaged : (damage : Damage) → status ≡ Damaged damage → (item : Item) × (rest : List Item) × (headline.ran.behind ≡ item ∷ rest)
+      × Spoils (last_state store headline.ran.outcomes) item damage
       × (headline.ran.shown ≡ shown_by reply_text headline.ran.outcomes)
   pub read : CarriesOutAll status → new.disk.bytes_read.pages ≡ (last_state store headline.ran.outcomes).read
 
@@ -168,12 +175,14 @@ store_of history d = record { history = history; pages = d.holds.pages; kept = [
 
 -- Unless the bytes were refused, the disk failed or memory ran out, a load took the image for a history's.
 abbrev pub IsLoadedFrom : Bytes → Status → Type 0
-IsLoadedFrom image status = ((history : History) × LoadsAs history image) ⊎ (((at : ℕ) × (status ≡ NotArchive at)) ⊎ ((status ≡ Disk) ⊎ (status ≡ Memory)))
+IsLoadedFrom image status = ((history : History) × LoadsAs history image)
+    ⊎ (((at : ℕ) × (status ≡ NotArchive at)) ⊎ ((status ≡ Disk) ⊎ (status ≡ Memory)))
 
 -- Where nothing is wrong, a run comes to the end of the input: the bytes are an archive's, the input is a script of less than 2^40 bytes, and no
 -- count of faults rose. Then it may only run out of memory, or come to a sublist that is damaged.
 abbrev pub IsComplete : Status → MachineState → MachineState → Type 0
 IsComplete status old new =
     ((at : ℕ) → IsNotArchive old.disk.holds at → ⊥) → IsScript old.source.left → length old.source.left < 2 ^ 40
-    → (Rose old.disk.faults new.disk.faults → ⊥) → (Rose old.source.faults new.source.faults → ⊥) → (Rose old.sink.faults new.sink.faults → ⊥)
+    → (Rose old.disk.faults new.disk.faults → ⊥) → (Rose old.source.faults new.source.faults → ⊥)
+    → (Rose old.sink.faults new.sink.faults → ⊥)
     → (status ≡ Done) ⊎ ((status ≡ Memory) ⊎ ((damage : Damage) × (status ≡ Damaged damage)))

@@ -87,26 +87,31 @@ pub record Serves (store : Store) (status : Status) (old new : MachineState) (pu
   -- where memory ran out or a sublist is damaged, all that were reached are shown, and each image stands for the last state
   pub undone : IsUndoneAt status → (others ≡ []) × (part ≡ [])
   pub steady : (status ≡ Disk → ⊥) → EachStandsBy new.disk (last_state store ran.outcomes)
-  pub damaged : (damage : Damage) → status ≡ Damaged damage → (item : Item) × (rest : List Item) × (ran.behind ≡ item ∷ rest) × Spoils (last_state store ran.outcomes) item damage
+  pub damaged : (damage : Damage) → status ≡ Damaged damage → (item : Item) × (rest : List Item) × (ran.behind ≡ item ∷ rest)
+      × Spoils (last_state store ran.outcomes) item damage
   pub read : CarriesOutAll status → new.disk.bytes_read.pages ≡ (last_state store ran.outcomes).read
 
 -- ---- by the disk alone
 
 -- Since a call or a loop began, these items were carried out, from what was stored. Where the source tells, they are the next of those of the bytes
 -- pulled.
-pub record HasPassed (tells : Type 0) (store : Store) (d : DiskState) (archive : ArchiveState) (source source_now : SourceState) (held held_now : ReaderState) : Type 0 where
+pub record HasPassed (tells : Type 0) (store : Store) (d : DiskState) (archive : ArchiveState) (source source_now : SourceState)
+    (held held_now : ReaderState) : Type 0 where
   pub items : List Item
   pub outcomes : List (Outcome Reply Store)
   pub run : IsRun StoreStep store items outcomes
   pub in_step : AreInStepBy d archive (last_state store outcomes)
-  pub pulled : tells → (began : SourceState) → (p : Pulling began source held) → (q : Pulling began source_now held_now) × (q.items ≡ p.items ++ items)
+  pub pulled : tells → (began : SourceState) → (p : Pulling began source held) → (q : Pulling began source_now held_now)
+      × (q.items ≡ p.items ++ items)
 
 -- And then this is the first damage of what is read for the next item.
-pub record HasSpoiled (tells : Type 0) (store : Store) (d : DiskState) (source source_now : SourceState) (held : ReaderState) (damage : Damage) : Type 0 where
+pub record HasSpoiled (tells : Type 0) (store : Store) (d : DiskState) (source source_now : SourceState) (held : ReaderState)
+    (damage : Damage) : Type 0 where
   pub before : List Item
   pub outcomes : List (Outcome Reply Store)
   pub run : IsRun StoreStep store before outcomes
   pub item : Item
   pub spoiled : Spoils (last_state store outcomes) item damage
   pub pages_are : d.holds.pages ≡ (last_state store outcomes).pages
-  pub pulled : tells → (began : SourceState) → (p : Pulling began source held) → ArePulled began source_now (p.items ++ (before ++ item ∷ []))
+  pub pulled : tells → (began : SourceState) → (p : Pulling began source held)
+      → ArePulled began source_now (p.items ++ (before ++ item ∷ []))

@@ -42,7 +42,8 @@ pub(crate) fn answer<D: Disk>(
     ensures disk_fault { IsErrOf result Halt.Disk → Rose (D.disk disk.old).faults (D.disk disk.new).faults }
     ensures left { OnOk result (IsLeft D.disk_tells (D.disk disk.old) (D.disk disk.new) archive.old archive.new) }
     // What comes of it by what reads give, whatever lies in Pages.
-    ensures outcome { D.disk_tells → (s : Store) → AreInStepBy (D.disk disk.old) archive.old s → IsAnswered s item result (D.disk disk.old) (D.disk disk.new) archive.new page.new.bytes }
+    ensures outcome { D.disk_tells → (s : Store) → AreInStepBy (D.disk disk.old) archive.old s
+        → IsAnswered s item result (D.disk disk.old) (D.disk disk.new) archive.new page.new.bytes }
 {
     let Item::Command(command) = item else {
         return refuse(page, Refusal::Line);

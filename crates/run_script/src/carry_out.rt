@@ -31,9 +31,11 @@ pub(crate) fn carry_out<M: Machine>(
     ensures sink_fault { IsErrOf result Stop.Sink → Rose (M.sink machine.old).faults (M.sink machine.new).faults }
     ensures left { OnOk result (IsLeft M.disk_tells (M.disk machine.old) (M.disk machine.new) archive.old archive.new) }
     ensures outcome { M.disk_tells → M.sink_tells → (s : Store) → AreInStepBy (M.disk machine.old) archive.old s →
-        CarriesOut s item result (M.sink machine.old).shown (M.sink machine.new).shown (M.disk machine.old) (M.disk machine.new) archive.new }
+        CarriesOut s item result (M.sink machine.old).shown (M.sink machine.new).shown (M.disk machine.old)
+        (M.disk machine.new) archive.new }
     // The same by the disk alone.
-    ensures passes { M.disk_tells → (s : Store) → AreInStepBy (M.disk machine.old) archive.old s → Passes s item result (M.disk machine.new) archive.new }
+    ensures passes { M.disk_tells → (s : Store) → AreInStepBy (M.disk machine.old) archive.old s
+        → Passes s item result (M.disk machine.new) archive.new }
 {
     match answer(alloc, machine, archive, page, item) {
         Ok(()) => {}

@@ -70,7 +70,8 @@ pub fn run<M: Machine>(alloc: Global, words: &[String], machine: &mut M) -> Stat
     ensures sink_fault { result ≡ Status.Sink → Rose (M.sink machine.old).faults (M.sink machine.new).faults }
     // The journal is refused exactly where the bytes are no archive's, unless the disk failed or memory ran out first.
     ensures not_archive { M.disk_tells → (at : ℕ) → result ≡ Status.NotArchive at → IsNotArchive (M.disk machine.old).holds at }
-    ensures refused { M.disk_tells → (task : PlainTask) → AreWords (texts words.now) task → (at : ℕ) → IsNotArchive (M.disk machine.old).holds at →
+    ensures refused { M.disk_tells → (task : PlainTask) → AreWords (texts words.now) task → (at : ℕ)
+        → IsNotArchive (M.disk machine.old).holds at →
         (result ≡ Status.NotArchive at) ⊎ ((result ≡ Status.Disk) ⊎ (result ≡ Status.Memory)) }
     // Such bytes are left as they are: they are synced and read, and nothing is pulled, shown or written.
     ensures left_alone { M.disk_tells → (at : ℕ) → IsNotArchive (M.disk machine.old).holds at →
@@ -78,7 +79,8 @@ pub fn run<M: Machine>(alloc: Global, words: &[String], machine: &mut M) -> Stat
         × Syncs (M.disk machine.old) (M.disk machine.new) }
     // Where the bytes stand for a history: one run of the abstract archive over the items of the bytes pulled, what is shown of it and when, what each
     // image left at any moment stands for, and where the input was.
-    ensures headline { M.source_tells → M.sink_tells → M.disk_tells → AreWords (texts words.now) tasks.Script → (h : History) → Stands h (M.disk machine.old).holds →
+    ensures headline { M.source_tells → M.sink_tells → M.disk_tells → AreWords (texts words.now) tasks.Script → (h : History)
+        → Stands h (M.disk machine.old).holds →
         (pulls : List Pull) × M.asked machine.old pulls machine.new
         × StandingRun h result (state_by M.source M.sink M.disk machine.old) (state_by M.source M.sink M.disk machine.new) pulls }
     // The same by what reads give, whatever lies in Pages: from the history for which a load takes the bytes, one run in which changes and plans are
@@ -86,39 +88,51 @@ pub fn run<M: Machine>(alloc: Global, words: &[String], machine: &mut M) -> Stat
     // journal of its state, and in each live place the bytes that reads give; so a plan whose sublists are held keeps them while it is live, whatever
     // became of the others. Where the run ends at a damaged sublist, it is the first damage of what is read for the next item. At the end as many
     // bytes of Pages were read as the run says, in which each query asks for just the pages of the lists that are chosen for it.
-    ensures by_reads { M.source_tells → M.sink_tells → M.disk_tells → AreWords (texts words.now) tasks.Script → (h : History) → LoadsAs h (M.disk machine.old).holds →
+    ensures by_reads { M.source_tells → M.sink_tells → M.disk_tells → AreWords (texts words.now) tasks.Script → (h : History)
+        → LoadsAs h (M.disk machine.old).holds →
         (pulls : List Pull) × M.asked machine.old pulls machine.new
-        × ReadingRun (store_of h (M.disk machine.old)) result (state_by M.source M.sink M.disk machine.old) (state_by M.source M.sink M.disk machine.new) pulls }
+        × ReadingRun (store_of h (M.disk machine.old)) result (state_by M.source M.sink M.disk machine.old)
+        (state_by M.source M.sink M.disk machine.new) pulls }
     // Whatever the source and the sink tell, a damaged sublist is told only of a question, and only where it is the first damage of what is read for
     // that one, by the history to which the items in front of it led the one loaded.
     ensures damaged { M.disk_tells → AreWords (texts words.now) tasks.Script → (d : Damage) → result ≡ Status.Damaged d →
-        (h : History) × LoadsAs h (M.disk machine.old).holds × EndsSpoiled M.source_tells (store_of h (M.disk machine.old)) (M.source machine.old) (M.source machine.new) (M.disk machine.new) d }
+        (h : History) × LoadsAs h (M.disk machine.old).holds
+        × EndsSpoiled M.source_tells (store_of h (M.disk machine.old)) (M.source machine.old) (M.source machine.new)
+        (M.disk machine.new) d }
     // Unless the bytes were refused, the disk failed or memory ran out, a load took them for a history's.
     ensures loaded { M.disk_tells → AreWords (texts words.now) tasks.Script → IsLoadedFrom (M.disk machine.old).holds result }
     // And whatever the disk holds, unless its bytes were refused: where the input was.
-    ensures input_at { M.source_tells → AreWords (texts words.now) tasks.Script → ((at : ℕ) × (result ≡ Status.NotArchive at)) ⊎ Ends result (M.source machine.old) (M.source machine.new) }
+    ensures input_at { M.source_tells → AreWords (texts words.now) tasks.Script → ((at : ℕ) × (result ≡ Status.NotArchive at))
+        ⊎ Ends result (M.source machine.old) (M.source machine.new) }
     // Where nothing is wrong, the run comes to the end of the input, unless memory runs out or a sublist is damaged.
     ensures complete { M.source_tells → M.sink_tells → M.disk_tells → AreWords (texts words.now) tasks.Script →
         IsComplete result (state_by M.source M.sink M.disk machine.old) (state_by M.source M.sink M.disk machine.new) }
     // With the words of a sample nothing is pulled, and no status speaks of the input.
     ensures sample_ends { (numbers : PlainNumbers) → AreWords (texts words.now) (tasks.Generate numbers) →
         EndsSample result ⊎ (((at : ℕ) × (result ≡ Status.NotArchive at)) ⊎ ((n : ℕ) × (result ≡ Status.NotEmpty n))) }
-    ensures unpulled { (numbers : PlainNumbers) → AreWords (texts words.now) (tasks.Generate numbers) → M.source machine.new ≡ M.source machine.old }
+    ensures unpulled { (numbers : PlainNumbers) → AreWords (texts words.now) (tasks.Generate numbers)
+        → M.source machine.new ≡ M.source machine.old }
     // An archive with entries is told so, exactly with these words, unless it can't be loaded; it keeps its history, and nothing is shown.
-    ensures not_empty { (n : ℕ) → result ≡ Status.NotEmpty n → (1 ≤ n) × ((numbers : PlainNumbers) × AreWords (texts words.now) (tasks.Generate numbers))
+    ensures not_empty { (n : ℕ) → result ≡ Status.NotEmpty n
+        → (1 ≤ n) × ((numbers : PlainNumbers) × AreWords (texts words.now) (tasks.Generate numbers))
         × (M.disk_tells → (h : History) × Spells (M.disk machine.old).holds.journal (bodies_of h) × IsLoadable h × (n ≡ length h)) }
     ensures occupied { M.disk_tells → (numbers : PlainNumbers) → AreWords (texts words.now) (tasks.Generate numbers) →
         (h : History) → Spells (M.disk machine.old).holds.journal (bodies_of h) → IsLoadable h → 1 ≤ length h →
-        (result ≡ Status.NotEmpty (length h)) ⊎ ((result ≡ Status.Disk) ⊎ ((result ≡ Status.Memory) ⊎ ((at : ℕ) × (result ≡ Status.NotArchive at)))) }
-    ensures spared { M.disk_tells → (numbers : PlainNumbers) → AreWords (texts words.now) (tasks.Generate numbers) → (h : History) → EachStands (M.disk machine.old) h → 1 ≤ length h →
+        (result ≡ Status.NotEmpty (length h))
+        ⊎ ((result ≡ Status.Disk) ⊎ ((result ≡ Status.Memory) ⊎ ((at : ℕ) × (result ≡ Status.NotArchive at)))) }
+    ensures spared { M.disk_tells → (numbers : PlainNumbers) → AreWords (texts words.now) (tasks.Generate numbers) → (h : History)
+        → EachStands (M.disk machine.old) h → 1 ≤ length h →
         (M.sink machine.new ≡ M.sink machine.old) × KeepsHistory h (M.disk machine.old) (M.disk machine.new) }
-    ensures unwritten { M.disk_tells → (numbers : PlainNumbers) → AreWords (texts words.now) (tasks.Generate numbers) → (bodies : List (List ℕ)) → EachSpells (M.disk machine.old) bodies → 1 ≤ length bodies →
+    ensures unwritten { M.disk_tells → (numbers : PlainNumbers) → AreWords (texts words.now) (tasks.Generate numbers)
+        → (bodies : List (List ℕ)) → EachSpells (M.disk machine.old) bodies → 1 ≤ length bodies →
         (M.sink machine.new ≡ M.sink machine.old) × KeepsBodies bodies (M.disk machine.old) (M.disk machine.new) }
     // From an archive without entries: one run of the abstract archive over the sample's commands, the lines that are shown of it, and what each
     // image left at any moment stands for.
-    ensures sampled { M.sink_tells → M.disk_tells → (numbers : PlainNumbers) → AreWords (texts words.now) (tasks.Generate numbers) → Stands [] (M.disk machine.old).holds →
+    ensures sampled { M.sink_tells → M.disk_tells → (numbers : PlainNumbers) → AreWords (texts words.now) (tasks.Generate numbers)
+        → Stands [] (M.disk machine.old).holds →
         Sampled numbers.seed numbers.count result (M.sink machine.old) (M.sink machine.new) (M.disk machine.old) (M.disk machine.new) }
-    ensures filled { M.disk_tells → (numbers : PlainNumbers) → AreWords (texts words.now) (tasks.Generate numbers) → Stands [] (M.disk machine.old).holds →
+    ensures filled { M.disk_tells → (numbers : PlainNumbers) → AreWords (texts words.now) (tasks.Generate numbers)
+        → Stands [] (M.disk machine.old).holds →
         (Rose (M.disk machine.old).faults (M.disk machine.new).faults → ⊥) →
         (Rose (M.sink machine.old).faults (M.sink machine.new).faults → ⊥) →
         (result ≡ Status.Done) ⊎ (result ≡ Status.Memory) }

@@ -40,9 +40,13 @@ pub(crate) fn run_sample<M: Machine>(
     ensures left_alone { M.disk_tells → (at : ℕ) → IsNotArchive (M.disk machine.old).holds at →
         (M.sink machine.new ≡ M.sink machine.old) × Syncs (M.disk machine.old) (M.disk machine.new) }
     ensures undamaged { M.disk_tells → (d : Damage) → result ≡ Status.Damaged d → ⊥ }
-    ensures not_empty { (n : ℕ) → result ≡ Status.NotEmpty n → (1 ≤ n) × (M.disk_tells → (h : History) × Spells (M.disk machine.old).holds.journal (bodies_of h) × IsLoadable h × (n ≡ length h)) }
-    ensures occupied { M.disk_tells → (h : History) → Spells (M.disk machine.old).holds.journal (bodies_of h) → IsLoadable h → 1 ≤ length h →
-        (result ≡ Status.NotEmpty (length h)) ⊎ ((result ≡ Status.Disk) ⊎ ((result ≡ Status.Memory) ⊎ ((at : ℕ) × (result ≡ Status.NotArchive at)))) }
+    ensures not_empty { (n : ℕ) → result ≡ Status.NotEmpty n
+        → (1 ≤ n) × (M.disk_tells → (h : History) × Spells (M.disk machine.old).holds.journal (bodies_of h) × IsLoadable h
+        × (n ≡ length h)) }
+    ensures occupied { M.disk_tells → (h : History) → Spells (M.disk machine.old).holds.journal (bodies_of h) → IsLoadable h
+        → 1 ≤ length h →
+        (result ≡ Status.NotEmpty (length h))
+        ⊎ ((result ≡ Status.Disk) ⊎ ((result ≡ Status.Memory) ⊎ ((at : ℕ) × (result ≡ Status.NotArchive at)))) }
     ensures spared { M.disk_tells → (h : History) → EachStands (M.disk machine.old) h → 1 ≤ length h →
         (M.sink machine.new ≡ M.sink machine.old) × KeepsHistory h (M.disk machine.old) (M.disk machine.new) }
     ensures kept { M.disk_tells → (bodies : List (List ℕ)) → EachSpells (M.disk machine.old) bodies → 1 ≤ length bodies →

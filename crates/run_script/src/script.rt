@@ -34,11 +34,15 @@ pub(crate) fn run_script<M: Machine>(alloc: Global, machine: &mut M) -> Status
         × StandingRun h result (state_by M.source M.sink M.disk machine.old) (state_by M.source M.sink M.disk machine.new) pulls }
     ensures by_reads { M.source_tells → M.sink_tells → M.disk_tells → (h : History) → LoadsAs h (M.disk machine.old).holds →
         (pulls : List Pull) × M.asked machine.old pulls machine.new
-        × ReadingRun (store_of h (M.disk machine.old)) result (state_by M.source M.sink M.disk machine.old) (state_by M.source M.sink M.disk machine.new) pulls }
+        × ReadingRun (store_of h (M.disk machine.old)) result (state_by M.source M.sink M.disk machine.old)
+        (state_by M.source M.sink M.disk machine.new) pulls }
     ensures damaged { M.disk_tells → (d : Damage) → result ≡ Status.Damaged d →
-        (h : History) × LoadsAs h (M.disk machine.old).holds × EndsSpoiled M.source_tells (store_of h (M.disk machine.old)) (M.source machine.old) (M.source machine.new) (M.disk machine.new) d }
+        (h : History) × LoadsAs h (M.disk machine.old).holds
+        × EndsSpoiled M.source_tells (store_of h (M.disk machine.old)) (M.source machine.old) (M.source machine.new)
+        (M.disk machine.new) d }
     ensures loaded { M.disk_tells → IsLoadedFrom (M.disk machine.old).holds result }
-    ensures input_at { M.source_tells → ((at : ℕ) × (result ≡ Status.NotArchive at)) ⊎ Ends result (M.source machine.old) (M.source machine.new) }
+    ensures input_at { M.source_tells → ((at : ℕ) × (result ≡ Status.NotArchive at))
+        ⊎ Ends result (M.source machine.old) (M.source machine.new) }
     ensures complete { M.source_tells → M.sink_tells → M.disk_tells →
         IsComplete result (state_by M.source M.sink M.disk machine.old) (state_by M.source M.sink M.disk machine.new) }
 {

@@ -33,8 +33,10 @@ fn next_item<M: Machine>(
     ensures undamaged { (d : Damage) → IsErrOf result (Status.Damaged d) → ⊥ }
     ensures nearer { OnOk result (reader.old.parts.passed < reader.new.parts.passed) }
     ensures bound { reader.new.parts.passed ≤ 2 ^ 40 }
-    ensures asked { M.source_tells → (began : SourceState) → (p : Pulling began (M.source machine.old) reader.old) → (lefts : List (List ℕ)) ×
-        M.asked machine.old (pulls_beside (M.sink machine.new).shown lefts) machine.new × AreAwaited reader.old p.since (M.source machine.old).left lefts }
+    ensures asked { M.source_tells → (began : SourceState) → (p : Pulling began (M.source machine.old) reader.old)
+        → (lefts : List (List ℕ)) ×
+        M.asked machine.old (pulls_beside (M.sink machine.new).shown lefts) machine.new
+        × AreAwaited reader.old p.since (M.source machine.old).left lefts }
     ensures gives { M.source_tells → (began : SourceState) → (p : Pulling began (M.source machine.old) reader.old) →
         Gives reader.old reader.new p.since result (M.source machine.old) (M.source machine.new) }
 {
@@ -73,8 +75,10 @@ pub(crate) fn step<M: Machine>(
         (λ status. Serves s status began (state_by M.source M.sink M.disk machine.new) (before ++ pulls)) }
     // By the disk alone: an item was carried out, or it came to a damage.
     ensures passes { M.disk_tells → (s : Store) → AreInStepBy (M.disk machine.old) archive.old s → MatchResult result
-        (λ _. HasPassed M.source_tells s (M.disk machine.new) archive.new (M.source machine.old) (M.source machine.new) reader.old reader.new)
-        (λ status. (d : Damage) → status ≡ Status.Damaged d → HasSpoiled M.source_tells s (M.disk machine.new) (M.source machine.old) (M.source machine.new) reader.old d) }
+        (λ _. HasPassed M.source_tells s (M.disk machine.new) archive.new (M.source machine.old)
+        (M.source machine.new) reader.old reader.new)
+        (λ status. (d : Damage) → status ≡ Status.Damaged d
+        → HasSpoiled M.source_tells s (M.disk machine.new) (M.source machine.old) (M.source machine.new) reader.old d) }
 {
     let item = match next_item(alloc, machine, reader) {
         Ok(item) => item,
@@ -99,14 +103,16 @@ pub(crate) fn serve<M: Machine>(
         (state_by M.source M.sink M.disk machine.new) }
     ensures cause { MayEnd result (state_by M.source M.sink M.disk machine.old)
         (state_by M.source M.sink M.disk machine.new) }
-    ensures ends { M.source_tells → (began : SourceState) → Pulling began (M.source machine.old) reader.old → Ends result began (M.source machine.new) }
+    ensures ends { M.source_tells → (began : SourceState) → Pulling began (M.source machine.old) reader.old
+        → Ends result began (M.source machine.new) }
     ensures served { M.source_tells → M.sink_tells → M.disk_tells → (s : Store) →
         Serving s (state_by M.source M.sink M.disk machine.old)
         (state_by M.source M.sink M.disk machine.old) archive.old reader.old [] →
         (pulls : List Pull) × M.asked machine.old pulls machine.new
         × Serves s result (state_by M.source M.sink M.disk machine.old)
         (state_by M.source M.sink M.disk machine.new) pulls }
-    ensures spoiled { M.disk_tells → (s : Store) → AreInStepBy (M.disk machine.old) archive.old s → (d : Damage) → result ≡ Status.Damaged d →
+    ensures spoiled { M.disk_tells → (s : Store) → AreInStepBy (M.disk machine.old) archive.old s → (d : Damage)
+        → result ≡ Status.Damaged d →
         HasSpoiled M.source_tells s (M.disk machine.new) (M.source machine.old) (M.source machine.new) reader.old d }
 {
     'items: loop {

@@ -20,8 +20,10 @@ NoWordsAskForTheScript = AreWords [] Script
 
 -- Words that give both options in the plain forms ask for what the values ask for, whatever texts these are.
 abbrev pub PlainFormsAsk : Type 0
-PlainFormsAsk = (seed count : Text) (words : List Text) → GiveBoth seed count words → (task : Task) → AreWords words task ↔ AskFor (Some seed) (Some count) task
+PlainFormsAsk = (seed count : Text) (words : List Text) → GiveBoth seed count words → (task : Task)
+    → AreWords words task ↔ AskFor (Some seed) (Some count) task
 
 -- Words that give one option alone in a plain form ask for nothing.
 abbrev pub OneOptionAsksForNothing : Type 0
-OneOptionAsksForNothing = (value : Text) (words : List Text) → GiveOption (codes "generate") value words ⊎ GiveOption (codes "count") value words → AreNoWords words
+OneOptionAsksForNothing = (value : Text) (words : List Text) → GiveOption (codes "generate") value words
+    ⊎ GiveOption (codes "count") value words → AreNoWords words

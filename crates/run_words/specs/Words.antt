@@ -36,7 +36,8 @@ given name words = first_of name (matches_of command words)
 -- from 1 to 100,000.)
 abbrev pub AskFor : Option Text → Option Text → Task → Type 0
 AskFor seed count Script = (seed ≡ None) × (count ≡ None)
-AskFor seed count (Generate sample) = IsSomeAnd seed (λ text. WritesNumber text sample.seed) × IsSomeAnd count (λ text. WritesNumber text sample.count)
+AskFor seed count (Generate sample) = IsSomeAnd seed (λ text. WritesNumber text sample.seed)
+    × IsSomeAnd count (λ text. WritesNumber text sample.count)
 
 -- The words ask for this.
 abbrev pub AreWords : List Text → Task → Type 0

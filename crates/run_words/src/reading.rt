@@ -24,7 +24,8 @@ pub fn read_words(alloc: Global, words: &[String]) -> Result<Task, WordsError>
 /// What the values of the two options ask for, if anything. Costs their length.
 fn task_of(seed: Option<&str>, count: Option<&str>) -> Option<Task>
     ensures some { IfSome result (AskFor (option_map (λ s. s.now) seed.entry) (option_map (λ s. s.now) count.entry)) }
-    ensures none { IfNone result ((task : Task) → AskFor (option_map (λ s. s.now) seed.entry) (option_map (λ s. s.now) count.entry) task → ⊥) }
+    ensures none { IfNone result ((task : Task) → AskFor (option_map (λ s. s.now) seed.entry) (option_map (λ s. s.now) count.entry) task
+        → ⊥) }
 {
     match (seed, count) {
         (None, None) => Some(Task::Script),

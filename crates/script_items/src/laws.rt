@@ -9,6 +9,8 @@ ghost use Rattle.script_items.specs.Items.{Items};
 /// The documents that the items of any bytes name are numbers below 2^32, and their batches have
 /// from 1 to 1,000 items; what parts make goes on with what is under way behind them. Does nothing.
 pub fn items_are_in_range()
-    ensures documents { (ended : Bool) (bytes : List ℕ) (items : List Item) (rest : List ℕ) → Items ended bytes items rest → All HasDocument items }
-    ensures joined { (begun : Option Begun) (a b : List PlainPart) → makes begun (a ++ b) ≡ with_items (makes begun a).items (makes (makes begun a).begun b) }
+    ensures documents { (ended : Bool) (bytes : List ℕ) (items : List Item) (rest : List ℕ) → Items ended bytes items rest
+        → All HasDocument items }
+    ensures joined { (begun : Option Begun) (a b : List PlainPart)
+        → makes begun (a ++ b) ≡ with_items (makes begun a).items (makes (makes begun a).begun b) }
 {}

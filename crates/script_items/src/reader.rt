@@ -84,7 +84,8 @@ impl Reader {
         // An item lets bytes go.
         ensures further { IfOk result (λ item. IsSome item → self.old.parts.passed < self.new.parts.passed) }
         // The end, once told, is the source's.
-        ensures end { S.source_tells → (self.old.parts.ended ≡ true → (S.source source.old).left ≡ []) → self.new.parts.ended ≡ true → (S.source source.new).left ≡ [] }
+        ensures end { S.source_tells → (self.old.parts.ended ≡ true → (S.source source.old).left ≡ []) → self.new.parts.ended ≡ true
+            → (S.source source.new).left ≡ [] }
     {
         'parts: loop {
             self.reserve()?;

@@ -41,7 +41,8 @@ short true len = Broken len
 abbrev pub text_end : Bool → ℕ → ℕ → Part → List ℕ → First
 text_end ended len used item [] = short ended len
 text_end ended len used item (b ∷ []) = if b == 10 then Whole (Some item) (used + 1) else (if b == 13 then short ended len else Broken used)
-text_end ended len used item (b ∷ c ∷ bs) = if b == 10 then Whole (Some item) (used + 1) else (if (b == 13) && (c == 10) then Whole (Some item) (used + 2) else Broken used)
+text_end ended len used item (b ∷ c ∷ bs) = if b == 10 then Whole (Some item) (used + 1) else
+    (if (b == 13) && (c == 10) then Whole (Some item) (used + 2) else Broken used)
 
 -- What a line begins that says this and takes so many of these bytes, its end among them.
 abbrev pub piece_of : Bool → Meaning → ℕ → List ℕ → First
@@ -70,7 +71,8 @@ closed_line say ended n line bytes = if nat_lt most_line (length line) then Brok
 
 -- What bytes begin with whose first LF stands at n, or that have none and are n.
 abbrev pub from_line : (List ℕ → Meaning) → Bool → ℕ → List ℕ → First
-from_line say ended n bytes = if nat_lt n (length bytes) then closed_line say ended n (without_cr (take n bytes)) bytes else open_line say ended bytes
+from_line say ended n bytes = if nat_lt n (length bytes) then closed_line say ended n (without_cr (take n bytes)) bytes else open_line say
+    ended bytes
 
 -- What bytes begin with; the word says that no more will come.
 abbrev pub first_by : (List ℕ → Meaning) → Bool → List ℕ → First

@@ -84,7 +84,8 @@ passed_item over = told (Arrive over.doc over.at (TooLong over.size))
 abbrev pub long_piece : Bool → Over → List ℕ → First
 long_piece ended over bytes =
     if nat_lt (over.gone + length bytes) over.size then short ended (over.line + over.gone + length bytes)
-    else text_end ended (over.line + over.gone + length bytes) (over.line + over.size) (passed_item over) (drop (over.size - over.gone) bytes)
+    else text_end ended (over.line + over.gone + length bytes) (over.line + over.size) (passed_item over)
+    (drop (over.size - over.gone) bytes)
 
 -- What the bytes since the last item begin with, by what is held.
 abbrev pub found_by : Bool → Option Over → List ℕ → First

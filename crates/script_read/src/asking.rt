@@ -27,7 +27,8 @@ fn finding(alloc: Global, words: &[u8]) -> Result<Option<Command>, AllocError>
 
 fn spanning(alloc: Global, words: &[u8]) -> Result<Option<Command>, AllocError>
     requires { length words.now ≤ 4096 }
-    ensures { IfOk result (λ c. c ≡ (time ▸ time ▸ checked (rest expr)) (λ from to. option_map (λ span expr. Between span expr) (span_of from to)) words.now) }
+    ensures { IfOk result (λ c. c ≡ (time ▸ time ▸ checked (rest expr))
+        (λ from to. option_map (λ span expr. Between span expr) (span_of from to)) words.now) }
 {
     let (from, second) = next_word(words);
     let Some(from) = time(from) else {

@@ -43,7 +43,8 @@ fn guaranteed(word: Phrase, words: &[u8]) -> Option<Command>
 
 /// The plan of a word that keeps to a space, with the words behind `space`.
 fn spaced(word: Phrase, words: &[u8]) -> Option<Command>
-    ensures { result ≡ ((fraction ▸ "uniform" ▹ end) (λ f. Plan word Uniform f) or (fraction ▸ "since" ▹ time ▸ end) (λ f at. Plan word (Since at) f)) words.now }
+    ensures { result ≡ ((fraction ▸ "uniform" ▹ end) (λ f. Plan word Uniform f) or (fraction ▸ "since" ▹ time ▸ end)
+        (λ f at. Plan word (Since at) f)) words.now }
 {
     let (factor, how) = next_word(words);
     let fraction = fraction(factor)?;

@@ -27,7 +27,8 @@ pub struct Over {
 
 /// The text above the limit for which a line asks that says this and takes so many bytes.
 fn over_of(meaning: Meaning, line: u64) -> Option<Over>
-    ensures some { IfSome result (λ over. (meaning ≡ Meaning.Arrival over.doc over.at over.size) × (4194304 < over.size) × (over.line ≡ line) × (over.gone ≡ 0)) }
+    ensures some { IfSome result (λ over. (meaning ≡ Meaning.Arrival over.doc over.at over.size) × (4194304 < over.size)
+        × (over.line ≡ line) × (over.gone ≡ 0)) }
     ensures none { result ≡ None → IsWithinText meaning }
 {
     let Meaning::Arrival { doc, at, bytes } = meaning else {

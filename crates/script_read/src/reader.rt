@@ -43,9 +43,16 @@ impl Model for Reader {
 
     ghost Value = { ReaderState };
 
-    ghost view = { λ r. record { bytes = drop r.start r.buffer.items; passed = r.passed; ended = r.ended; over = r.over; kept = length r.buffer.items } };
+    ghost view = { λ r. record {
+      bytes = drop r.start r.buffer.items;
+      passed = r.passed;
+      ended = r.ended;
+      over = r.over;
+      kept = length r.buffer.items;
+    } };
 
-    ghost invariant = { λ r. (r.start ≤ length r.buffer.items) × (r.passed + gone r.over + length (drop r.start r.buffer.items) ≤ 2 ^ 40) × IsSmall r.over × (length r.block.items ≡ 65536) × (length r.buffer.items ≤ most_kept) };
+    ghost invariant = { λ r. (r.start ≤ length r.buffer.items) × (r.passed + gone r.over + length (drop r.start r.buffer.items) ≤ 2 ^ 40)
+        × IsSmall r.over × (length r.block.items ≡ 65536) × (length r.buffer.items ≤ most_kept) };
 }
 
 impl Reader {
@@ -99,7 +106,8 @@ impl Reader {
         // An item lets bytes go.
         ensures further { IfOk result (λ item. IsSome item → self.old.passed < self.new.passed) }
         // The end, once told, is the source's.
-        ensures end { S.source_tells → (self.old.ended ≡ true → (S.source source.old).left ≡ []) → self.new.ended ≡ true → (S.source source.new).left ≡ [] }
+        ensures end { S.source_tells → (self.old.ended ≡ true → (S.source source.old).left ≡ []) → self.new.ended ≡ true
+            → (S.source source.new).left ≡ [] }
     {
         'rounds: loop {
             match self.front(alloc)? {
@@ -232,7 +240,13 @@ impl Reader {
     fn advance(&mut self, n: usize)
         requires some { gone self.old.over ≤ n }
         requires within { n ≤ gone self.old.over + length self.old.bytes }
-        ensures { self.new ≡ record { bytes = drop (n - gone self.old.over) self.old.bytes; passed = self.old.passed + n; ended = self.old.ended; over = None; kept = self.old.kept } }
+        ensures { self.new ≡ record {
+          bytes = drop (n - gone self.old.over) self.old.bytes;
+          passed = self.old.passed + n;
+          ended = self.old.ended;
+          over = None;
+          kept = self.old.kept;
+        } }
     {
         self.start += n - self.gone() as usize;
         self.passed += n as u64;
@@ -271,7 +285,8 @@ impl Reader {
         requires going { self.old.ended ≡ false }
         requires waits { length self.old.bytes ≤ most_waiting }
         ensures only { S.only source.old source.new }
-        ensures asked { (lefts : List (List ℕ)) × S.pulled source.old lefts source.new × All (λ left. left ≡ (S.source source.old).left) lefts }
+        ensures asked { (lefts : List (List ℕ)) × S.pulled source.old lefts source.new
+            × All (λ left. left ≡ (S.source source.old).left) lefts }
         ensures rose { IsErrOf result ScriptError.Failed → Rose (S.source source.old).faults (S.source source.new).faults }
         ensures bytes { (pulled : List ℕ) × (S.source_tells → (S.source source.old).left ≡ pulled ++ (S.source source.new).left)
             × (self.new.bytes ≡ self.old.bytes ++ pulled) }
@@ -281,7 +296,13 @@ impl Reader {
         ensures kept { self.new.kept ≤ most_kept }
         ensures nearer { OnOk result (rounds self.new < rounds self.old) }
         ensures end { S.source_tells → self.new.ended ≡ true → (S.source source.new).left ≡ [] }
-        ensures err { OnErr result (self.new ≡ record { bytes = self.old.bytes; passed = self.old.passed; ended = self.old.ended; over = self.old.over; kept = self.new.kept }) }
+        ensures err { OnErr result (self.new ≡ record {
+          bytes = self.old.bytes;
+          passed = self.old.passed;
+          ended = self.old.ended;
+          over = self.old.over;
+          kept = self.new.kept;
+        }) }
         ensures failed { IsErrOf result ScriptError.Failed → taken self.new < 2 ^ 40 }
         ensures spent { IsErrOf result ScriptError.Budget → taken self.new ≡ 2 ^ 40 }
         ensures why { IfErr result (λ e. IsPullError e) }

@@ -53,7 +53,8 @@ impl Source for Pieces<'_> {
 
     ghost pulled = { λ x lefts y. ArePulls (λ (faults : ℕ). []) (λ m n. m ≤ n) x.faults lefts y.faults };
 
-    ghost laws = { source_laws (λ x. x.faults) (λ n. record { left = []; faults = n }) (λ m n. m ≤ n) (λ n. Prim.omega arith) (λ m n k one two. Prim.omega (arith, one, two)) (λ m n one. one) (λ x. Prim.omega (arith, x.counted)) };
+    ghost laws = { source_laws (λ x. x.faults) (λ n. record { left = []; faults = n }) (λ m n. m ≤ n) (λ n. Prim.omega arith)
+        (λ m n k one two. Prim.omega (arith, one, two)) (λ m n one. one) (λ x. Prim.omega (arith, x.counted)) };
 
     fn pull(&mut self, buf: &mut [u8]) -> Result<usize, Failed> {
         if self.fails {

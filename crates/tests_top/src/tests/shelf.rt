@@ -92,7 +92,8 @@ impl Blocks for Shelf {
 
     type Fault = Fault;
 
-    ghost sheets = { λ s. map (λ w. record { heads = w.heads.items; blocks = map (λ b. b.items) w.blocks.items; flat = w.flat.items }) s.words.items };
+    ghost sheets = { λ s. map (λ w. record { heads = w.heads.items; blocks = map (λ b. b.items) w.blocks.items; flat = w.flat.items })
+        s.words.items };
 
     ghost opens = { λ x word block answer y. Unit {0} };
 
