@@ -12,7 +12,8 @@ days_in_year y = if is_leap_year y then 366 else 365
 
 -- thirty days have September, April, June and November
 abbrev pub days_in_month : ℕ → ℕ → ℕ
-days_in_month y m = if m == 2 then (if is_leap_year y then 29 else 28) else (if (m == 4) || (m == 6) || (m == 9) || (m == 11) then 30 else 31)
+days_in_month y m = if m == 2 then (if is_leap_year y then 29 else 28)
+    else (if (m == 4) || (m == 6) || (m == 9) || (m == 11) then 30 else 31)
 
 -- the days of the first n years from 1970 on
 abbrev pub days_of_years : ℕ → ℕ
@@ -42,4 +43,6 @@ is_dated word = (length word == 10) && ((slice_index word 4 == 45) && (slice_ind
 
 -- the second at which the day of a date begins
 abbrev pub date : List ℕ → Option ℕ
-date word = if is_dated word then (do y ← number 10000 (take 4 word); m ← number 100 (take 2 (drop 5 word)); d ← number 100 (drop 8 word); day_seconds y m d) else None
+date word = if is_dated word
+    then (do y ← number 10000 (take 4 word); m ← number 100 (take 2 (drop 5 word)); d ← number 100 (drop 8 word); day_seconds y m d)
+    else None

@@ -75,4 +75,7 @@ share_words line = do ws ← texts 16 line; then_some (nat_lt 0 (length ws)) ws
 
 -- The span from a time to a later one.
 abbrev pub span_of : Time → Time → Option Span
-span_of s t = do h ← s.seconds <? t.seconds; k ← t.seconds ≤? 2 ^ 40; Some (record { from = s.seconds; to = t.seconds; ordered = h; in_time = k })
+span_of s t = do
+  h ← s.seconds <? t.seconds
+  k ← t.seconds ≤? 2 ^ 40
+  Some (record { from = s.seconds; to = t.seconds; ordered = h; in_time = k })
