@@ -1,7 +1,7 @@
 -- Acts that are gathered one after another, and a batch of them that may come next.
-use Rattle.std.proofs.Common.{◌≡◌, ℕ, zero, suc, ◌+◌, ◌*◌, Bool, true, not, ◌<◌, ◌≤◌, ◌^◌, List, [], ◌∷◌, ◌++◌, length, map, take, drop, get_or, sum_by, All, Option, Some, None, option_map, Result, Ok, Err, MatchResult, OnOk, Bor, IsUtf8, ap, refl, subst, sym, ◌∙◌, arith, append_assoc, append-nil, length-append}
+use Rattle.std.proofs.Common.{◌≡◌, ℕ, zero, suc, ◌+◌, ◌*◌, Bool, true, not, ◌<◌, ◌≤◌, ◌^◌, List, [], ◌∷◌, ◌++◌, length, map, take, drop, get_or, sum_by, Option, Some, None, option_map, Result, Ok, Err, MatchResult, OnOk, Bor, IsUtf8, ap, refl, subst, sym, ◌∙◌, arith, append_assoc, append-nil, length-append}
 use Rattle.std.specs.List.{flat_map}
-use Rattle.std.proofs.lemmas.List.{drop_more, length-map, map-append, map_more, take_all, take_more}
+use Rattle.std.proofs.lemmas.List.{drop_more, length-map, map-append, take_all, take_more}
 use Rattle.std.proofs.lemmas.List.Concat.{flat_map-append}
 use Rattle.std.proofs.lemmas.List.Elements.{All-nil, All-push}
 use Rattle.std.proofs.lemmas.List.Sums.{sum_by-cons}
@@ -24,10 +24,10 @@ use Rattle.lists_versions.specs.Coming.{AreCounted}
 use Rattle.lists_versions.specs.Refusals.{arrive_refusal, change_refusal, delete_refusal, refusal_by}
 use Rattle.lists_versions.specs.Tests.{first_of, when}
 use Rattle.plans_kinds.specs.Plans.{IsFitFor}
+use Rattle.lists_index.specs.Indexes.{IsPreparedBehind}
 use Rattle.lists_index.specs.Indexing.{ComesLater}
 use Rattle.lists_index.specs.NewWords.{Brings}
-use Rattle.lists_index.specs.Words.{keys_in, words_in}
-use Rattle.text_words.specs.Words.{distinct}
+use Rattle.lists_index.specs.Words.{words_in}
 use Rattle.journal_entries.specs.Acts.{act_bytes, act_length, act_spelling, acts_bytes, alone, batch_front, batch_spelling, most_text, IsAct}
 use Rattle.journal_entries.specs.declared.act.Act.{Act}
 use Rattle.journal_entries.specs.declared.act.Act.TheVariants as batched
@@ -42,12 +42,13 @@ use Rattle.model_archive.specs.Steps.{Cause, act_of, bad_text, batch_cause, firs
 use Rattle.model_archive.proofs.BatchLemmas.{acts_short, alone_refusal, batch_allowed, batch_changes, batch_may, first_step, singles_changes}
 use Rattle.model_archive.proofs.LiveLemmas.{allowed_push, come_allowed}
 use Rattle.model_archive.proofs.RefusalLemmas.{arrival-refused, arrival-words, bad_text-no, too_long-no}
-use Rattle.archive_entries.specs.Batches.{place_change, text_change, AreAllowed, AreGathered, EachMayFollow, HasShortText, IsNextBatch}
+use Rattle.archive_entries.specs.Batches.{AreAllowed, AreGathered, AreReady, EachMayFollow, IsNextBatch}
 use Rattle.archive_entries.specs.Entries.{IsChange, IsHeld}
 use Rattle.archive_entries.specs.Places.{ArePlaced, pair_of, placed_act, placed_acts}
 use Rattle.archive_entries.specs.Texts.{bare}
 use Rattle.archive_entries.specs.declared.batching.Gathered.{Gathered}
-use Rattle.archive_entries.specs.declared.batching.NextAct.{NextAct}
+use Rattle.archive_entries.specs.declared.batching.NextWords.{NextWords}
+use Rattle.archive_entries.specs.declared.batching.PreparedBatch.{PreparedBatch}
 use Rattle.archive_entries.proofs.ActLemmas.{acts_pushed, acts_split, acts_taken}
 use Rattle.archive_entries.proofs.IndexLemmas.{change_of, changes_more, comes_later, words_full, words_within}
 use Rattle.archive_entries.proofs.PlaceLemmas.{acts_bare, acts_push, bare_arrive_refusal, bare_changes, bare_delete_refusal, pairs_bare}
@@ -55,16 +56,15 @@ use Rattle.archive_entries.proofs.PlaceLemmas.{acts_bare, acts_push, bare_arrive
 -- ---- changes that may follow
 
 -- one of them, behind those before it
-pub may_at : (before : List (Change TextPlace)) (acts : List NextAct) (i : ℕ) (a : NextAct) → i < length acts → a ≡ get_or acts i a → EachMayFollow before (map place_change acts)
-    → change_refusal a.change (before ++ map place_change (take i acts)) ≡ None
-may_at before [] i a within is may = absurd (omega (arith, within))
-may_at before (x ∷ acts) zero a within is may =
-    let P : NextAct → Type 0 = λ y. change_refusal y.change (before ++ []) ≡ None in
-    let Q : List (Change TextPlace) → Type 0 = λ l. change_refusal x.change l ≡ None in
+pub may_at : (before cs : List (Change TextPlace)) (i : ℕ) (c : Change TextPlace) → i < length cs → c ≡ get_or cs i c → EachMayFollow before cs → change_refusal c (before ++ take i cs) ≡ None
+may_at before [] i c within is may = absurd (omega (arith, within))
+may_at before (x ∷ cs) zero c within is may =
+    let P : Change TextPlace → Type 0 = λ y. change_refusal y (before ++ []) ≡ None in
+    let Q : List (Change TextPlace) → Type 0 = λ l. change_refusal x l ≡ None in
     subst P (sym is) (subst Q (sym (append-nil before)) may.0)
-may_at before (x ∷ acts) (suc i) a within is may =
-    let Q : List (Change TextPlace) → Type 0 = λ l. change_refusal a.change l ≡ None in
-    subst Q (append_assoc before (x.change ∷ []) (map place_change (take i acts))) (may_at (before ++ x.change ∷ []) acts i a (omega (arith, within)) is may.1)
+may_at before (x ∷ cs) (suc i) c within is may =
+    let Q : List (Change TextPlace) → Type 0 = λ l. change_refusal c l ≡ None in
+    subst Q (append_assoc before (x ∷ []) (take i cs)) (may_at (before ++ x ∷ []) cs i c (omega (arith, within)) is may.1)
 
 -- one more
 may_push : (before cs : List (Change TextPlace)) (c : Change TextPlace) → EachMayFollow before cs → change_refusal c (before ++ cs) ≡ None → EachMayFollow before (cs ++ c ∷ [])
@@ -74,8 +74,8 @@ may_push before (x ∷ cs) c may next = (
   may_push (before ++ x ∷ []) cs c may.1 (let Q : List (Change TextPlace) → Type 0 = λ l. change_refusal c l ≡ None in subst Q (sym (append_assoc before (x ∷ []) cs)) next),
 )
 
-pub changes_taken : (acts : List NextAct) (i : ℕ) (a : NextAct) → i < length acts → a ≡ get_or acts i a → map place_change (take (i + 1) acts) ≡ map place_change (take i acts) ++ a.change ∷ []
-changes_taken acts i a within is = map_more place_change acts i a within ∙ ap (λ (x : NextAct). map place_change (take i acts) ++ x.change ∷ []) (sym is)
+pub changes_taken : (cs : List (Change TextPlace)) (i : ℕ) (c : Change TextPlace) → i < length cs → c ≡ get_or cs i c → take (i + 1) cs ≡ take i cs ++ c ∷ []
+changes_taken cs i c within is = take_more cs i c within ∙ ap (λ (x : Change TextPlace). take i cs ++ x ∷ []) (sym is)
 
 -- ---- the refusals of an act behind a history and acts
 
@@ -134,14 +134,6 @@ arrival_allowed h batch doc t text cs same allowed within =
     arrival-words g doc t text (sym same ∙ allowed)
     ∙ ap (λ (o : Option Refusal). first_of (o ∷ [])) (words_within g (Arrive doc t text) tt (omega (arith, within, ap length (words_behind h batch doc t text))))
 
--- a deletion brings no word
-pub deletion_brings : (h : History) (batch : List Act) (doc : DocId) (t : Time) (words : List (List ℕ)) → words_in (changes h ++ map change_by batch) ≡ words_in (changes h) ++ words
-    → words_in (changes h ++ (map change_by batch ++ record { doc = doc; at = t; held = None } ∷ [])) ≡ words_in (changes h) ++ words
-deletion_brings h batch doc t words brings =
-    let c : Change (List ℕ) = record { doc = doc; at = t; held = None } in
-    let so_far = changes h ++ map change_by batch in
-    ap words_in (sym (append_assoc (changes h) (map change_by batch) (c ∷ []))) ∙ ap distinct (flat_map-append keys_in so_far (c ∷ []) ∙ append-nil (flat_map keys_in so_far)) ∙ brings
-
 -- ---- the text of an item
 
 content_held : (bytes : List ℕ) (r : Result (Bor (List ℕ)) Refusal) → MatchResult r (λ text. (length bytes ≤ most_text) × IsUtf8 bytes × (text.now ≡ bytes)) (λ why. first_of (too_long bytes ∷ bad_text bytes ∷ []) ≡ Some why)
@@ -172,14 +164,11 @@ arrival_refusal_is g doc t text bytes o good same is =
 
 -- ---- no act yet
 
-pub none_gathered : (before : List (Change TextPlace)) (end count : ℕ) (new : Gathered) → AreCounted before new.coming → new.coming.changes.items ≡ [] → new.acts.items ≡ [] → new.body.items ≡ batch_front count → AreGathered before end count [] new
-none_gathered before end count new counted coming kept body = record {
+pub none_gathered : (before : List (Change TextPlace)) (end count : ℕ) (new : Gathered) → AreCounted before new.coming → new.coming.changes.items ≡ [] → new.body.items ≡ batch_front count → AreGathered before end count [] new
+none_gathered before end count new counted coming body = record {
   counted = counted;
   may = subst (EachMayFollow before) (sym coming) tt;
-  changes_are = ap (λ (l : List NextAct). map place_change l) kept ∙ sym coming;
   placed = ap (λ (l : List (Change TextPlace)). map (mapped pair_of) l) coming;
-  texts = ap (λ (l : List NextAct). map text_change l) kept;
-  short = subst (All HasShortText) (sym kept) (All-nil HasShortText);
   ranges = All-nil IsAct;
   spelled = body ∙ sym (append-nil (batch_front count));
 }
@@ -208,30 +197,43 @@ arrival_by doc t change at bytes cs one two held = go change.held held ∙ (λ i
     go None is = absurd cc
     go (Some place) is = refl
 
-pub arrival_text : (doc : DocId) (t : Time) (text : List ℕ) (change : Change TextPlace) → change.doc ≡ doc → change.at ≡ t → record { doc = change.doc; at = change.at; held = Some text } ≡ change_by (batched.Arrive doc t text)
-arrival_text doc t text change one two = (λ i. record { doc = one i; at = two i; held = Some text })
-
-pub gathered_more : (before : List (Change TextPlace)) (end count : ℕ) (batch : List Act) (old new : Gathered) (act : Act) (next : NextAct) → AreGathered before end count batch old
-    → change_refusal next.change (before ++ old.coming.changes.items) ≡ None → mapped pair_of next.change ≡ placed_act (end + 9 + length (acts_bytes batch)) act → text_change next ≡ change_by act
-    → HasShortText next → IsAct act → AreCounted before new.coming → new.coming.changes.items ≡ old.coming.changes.items ++ next.change ∷ [] → new.acts.items ≡ old.acts.items ++ next ∷ []
+pub gathered_more : (before : List (Change TextPlace)) (end count : ℕ) (batch : List Act) (old new : Gathered) (act : Act) (change : Change TextPlace) → AreGathered before end count batch old
+    → change_refusal change (before ++ old.coming.changes.items) ≡ None → mapped pair_of change ≡ placed_act (end + 9 + length (acts_bytes batch)) act
+    → IsAct act → AreCounted before new.coming → new.coming.changes.items ≡ old.coming.changes.items ++ change ∷ []
     → new.body.items ≡ old.body.items ++ act_bytes act → AreGathered before end count (batch ++ act ∷ []) new
-gathered_more before end count batch old new act next was allowed place text short ranges counted coming kept body = record {
+gathered_more before end count batch old new act change was allowed place ranges counted coming body = record {
   counted = counted;
-  may = subst (EachMayFollow before) (sym coming) (may_push before old.coming.changes.items next.change was.may allowed);
-  changes_are = ap (λ (l : List NextAct). map place_change l) kept ∙ map-append place_change old.acts.items (next ∷ []) ∙ ap (λ (l : List (Change TextPlace)). l ++ next.change ∷ []) was.changes_are ∙ sym coming;
-  placed = ap (λ (l : List (Change TextPlace)). map (mapped pair_of) l) coming ∙ map-append (mapped pair_of) old.coming.changes.items (next.change ∷ [])
+  may = subst (EachMayFollow before) (sym coming) (may_push before old.coming.changes.items change was.may allowed);
+  placed = ap (λ (l : List (Change TextPlace)). map (mapped pair_of) l) coming ∙ map-append (mapped pair_of) old.coming.changes.items (change ∷ [])
       ∙ (λ i. was.placed i ++ place i ∷ []) ∙ sym (acts_push (end + 9) batch act);
-  texts = ap (λ (l : List NextAct). map text_change l) kept ∙ map-append text_change old.acts.items (next ∷ []) ∙ (λ i. was.texts i ++ text i ∷ []) ∙ sym (map-append change_by batch (act ∷ []));
-  short = subst (All HasShortText) (sym kept) (All-push HasShortText old.acts.items next was.short short);
   ranges = All-push IsAct batch act was.ranges ranges;
   spelled = body ∙ ap (λ (l : List ℕ). l ++ act_bytes act) was.spelled ∙ append_assoc (batch_front count) (acts_bytes batch) (act_bytes act) ∙ ap (λ (l : List ℕ). batch_front count ++ l) (sym (acts_pushed batch act));
 }
 
-pub allowed_more : (h : History) (batch : List Act) (old new : Gathered) (act : Act) → AreAllowed h batch old → act_refusal (h ++ singles batch) act ≡ None → Brings new.words (changes h) (map change_by batch ++ change_by act ∷ [])
+-- what an index takes of one change more
+ready_push : (before cs : List (Change (List ℕ))) (c : Change (List ℕ)) (ready : List NextWords) (next : NextWords) → AreReady before cs ready → next.at ≡ c.at → IsPreparedBehind (words_in (before ++ cs)) c.doc c.held next.words
+    → AreReady before (cs ++ c ∷ []) (ready ++ next ∷ [])
+ready_push before [] c [] next was at words =
+    (at, (let Q : List (Change (List ℕ)) → Type 0 = λ l. IsPreparedBehind (words_in l) c.doc c.held next.words in subst Q (append-nil before) words), tt)
+ready_push before [] c (y ∷ ready) next was at words = absurd was
+ready_push before (x ∷ cs) c [] next was at words = absurd was
+ready_push before (x ∷ cs) c (y ∷ ready) next was at words = (
+  was.0,
+  was.1,
+  ready_push (before ++ x ∷ []) cs c ready next was.2 at
+      (let Q : List (Change (List ℕ)) → Type 0 = λ l. IsPreparedBehind (words_in l) c.doc c.held next.words in subst Q (sym (append_assoc before (x ∷ []) cs)) words),
+)
+
+pub allowed_more : (h : History) (batch : List Act) (old new : Gathered) (act : Act) (next : NextWords) → AreAllowed h batch old → act_refusal (h ++ singles batch) act ≡ None → Brings new.words (changes h) (map change_by batch ++ change_by act ∷ [])
+    → next.at ≡ (change_by act).at → IsPreparedBehind (words_in (changes h ++ map change_by batch)) (change_by act).doc (change_by act).held next.words → new.ready.items ≡ old.ready.items ++ next ∷ []
     → AreAllowed h (batch ++ act ∷ []) new
-allowed_more h batch old new act was next brings = record {
-  allowed = subst (λ (g : History). EachAllowed h g) (sym (map-append alone batch (act ∷ []))) (allowed_push h (singles batch) (alone act) was.allowed (alone_refusal (h ++ singles batch) act ∙ next));
+allowed_more h batch old new act next was none brings at words kept = record {
+  allowed = subst (λ (g : History). EachAllowed h g) (sym (map-append alone batch (act ∷ []))) (allowed_push h (singles batch) (alone act) was.allowed (alone_refusal (h ++ singles batch) act ∙ none));
   brings = ap (λ (l : List (Change (List ℕ))). words_in (changes h ++ l)) (map-append change_by batch (act ∷ [])) ∙ brings;
+  ready =
+      let R : List (Change (List ℕ)) → List NextWords → Type 0 = AreReady (changes h) in
+      subst (λ (l : List (Change (List ℕ))). R l new.ready.items) (sym (map-append change_by batch (act ∷ [])))
+      (subst (R (map change_by batch ++ change_by act ∷ [])) (sym kept) (ready_push (changes h) (map change_by batch) (change_by act) old.ready.items next was.ready at words));
 }
 
 -- what is so where a call succeeds
@@ -318,9 +320,10 @@ body_fits items count body few short none spelled =
 
 pub batch_prepared : (h : History) (before : List (Change TextPlace)) (end count : ℕ) (items : List BatchItem) (all : Gathered) → 1 ≤ length items → length items ≤ 1000 → texts_bytes items ≤ 16777216 → is_marked h ≡ true → end ≡ end_of h
     → count ≡ length items → first_other 1 items ≡ None → AreGathered before end count (flat_map act_of items) all → AreAllowed h (flat_map act_of items) all → items_cause h 1 items ≡ None
-    → IsNextBatch h (flat_map act_of items) all.acts.items all.body.items × (batch_cause h items ≡ first_of (for_all (full_journal h (Batch (flat_map act_of items))) ∷ []))
+    → (p : PreparedBatch) → p.changes.items ≡ all.coming.changes.items → p.words.items ≡ all.ready.items → p.body.items ≡ all.body.items
+    → IsNextBatch h (flat_map act_of items) p × (batch_cause h items ≡ first_of (for_all (full_journal h (Batch (flat_map act_of items))) ∷ []))
 unfolding batch_spelling
-batch_prepared h before end count items all some few short marked at counted none gathered allowed good =
+batch_prepared h before end count items all some few short marked at counted none gathered allowed good p changes_are words_are body_is =
     let batch = flat_map act_of items in
     let fits : sum_by act_length batch ≤ most_batch = omega (arith, short, acts_short items) in
     let long = all_acts items 1 none in (
@@ -330,9 +333,9 @@ batch_prepared h before end count items all some few short marked at counted non
           allowed = batch_may h batch marked (le-ltb most_batch (sum_by act_length batch) fits) allowed.allowed;
           planned = tt;
         };
-        texts = gathered.texts;
-        placed = ap (λ (l : List (Change TextPlace)). map (mapped pair_of) l) gathered.changes_are ∙ gathered.placed ∙ ap (λ (n : ℕ). placed_acts (n + 9) batch) at;
-        spelled = gathered.spelled ∙ ap (λ (n : ℕ). batch_front n ++ acts_bytes batch) (counted ∙ sym long);
+        ready = subst (AreReady (changes h) (map change_by batch)) (sym words_are) allowed.ready;
+        placed = ap (λ (l : List (Change TextPlace)). map (mapped pair_of) l) changes_are ∙ gathered.placed ∙ ap (λ (n : ℕ). placed_acts (n + 9) batch) at;
+        spelled = body_is ∙ gathered.spelled ∙ ap (λ (n : ℕ). batch_front n ++ acts_bytes batch) (counted ∙ sym long);
       },
       cause_of_items h items marked short none ∙ first_step (items_cause h 1 items) (for_all (full_journal h (Batch batch)) ∷ []) good,
     )
@@ -352,51 +355,69 @@ allowed_joined before (x ∷ h) more allowed next =
     let P : History → Type 0 = λ g. EachAllowed g more in
     (allowed.0, allowed_joined (before ++ x ∷ []) h more allowed.1 (subst P (sym (append_assoc before (x ∷ []) h)) next))
 
--- the act of a batch whose text is this one's
-record IsActAt (batch : List Act) (i : ℕ) (a : NextAct) : Type 0 where
+-- the act of a batch of which an index takes this
+record IsActAt (before : List (Change (List ℕ))) (batch : List Act) (i : ℕ) (a : NextWords) : Type 0 where
   act : Act
   within : i < length batch
   is : act ≡ get_or batch i act
-  text : text_change a ≡ change_by act
+  at : a.at ≡ (change_by act).at
+  words : IsPreparedBehind (words_in (before ++ map change_by (take i batch))) (change_by act).doc (change_by act).held a.words
 
-act_found : (acts : List NextAct) (batch : List Act) (i : ℕ) (a : NextAct) → i < length acts → a ≡ get_or acts i a → map text_change acts ≡ map change_by batch → IsActAt batch i a
-act_found [] batch i a within is same = absurd (omega (arith, within))
-act_found (x ∷ acts) [] i a within is same = absurd (omega (arith, ap length same))
-act_found (x ∷ acts) (y ∷ batch) zero a within is same = record {
-  act = y;
-  within = omega arith;
-  is = refl;
-  text = ap text_change is ∙ ap (λ (l : List (Change (List ℕ))). get_or l 0 (text_change x)) same;
-}
-act_found (x ∷ acts) (y ∷ batch) (suc i) a within is same =
-    let rest = act_found acts batch i a (omega (arith, within)) is (ap (λ (l : List (Change (List ℕ))). drop 1 l) same) in
-    record { act = rest.act; within = omega (arith, rest.within); is = rest.is; text = rest.text }
+act_found : (before : List (Change (List ℕ))) (ready : List NextWords) (batch : List Act) (i : ℕ) (a : NextWords) → i < length ready → a ≡ get_or ready i a → AreReady before (map change_by batch) ready → IsActAt before batch i a
+act_found before [] batch i a within is all = absurd (omega (arith, within))
+act_found before (x ∷ ready) [] i a within is all = absurd all
+act_found before (x ∷ ready) (y ∷ batch) zero a within is all =
+    let c = change_by y in
+    let N : NextWords → Type 0 = λ n. IsPreparedBehind (words_in (before ++ [])) c.doc c.held n.words in
+    let Q : List (Change (List ℕ)) → Type 0 = λ l. IsPreparedBehind (words_in l) c.doc c.held x.words in
+    record {
+      act = y;
+      within = omega arith;
+      is = refl;
+      at = ap (λ (n : NextWords). n.at) is ∙ all.0;
+      words = subst N (sym is) (subst Q (sym (append-nil before)) all.1);
+    }
+act_found before (x ∷ ready) (y ∷ batch) (suc i) a within is all =
+    let rest = act_found (before ++ change_by y ∷ []) ready batch i a (omega (arith, within)) is all.2 in
+    let c = change_by rest.act in
+    let Q : List (Change (List ℕ)) → Type 0 = λ l. IsPreparedBehind (words_in l) c.doc c.held a.words in
+    record { act = rest.act; within = omega (arith, rest.within); is = rest.is; at = rest.at; words = subst Q (append_assoc before (change_by y ∷ []) (map change_by (take i batch))) rest.words }
+
+ready_length : (before cs : List (Change (List ℕ))) (ready : List NextWords) → AreReady before cs ready → length ready ≡ length cs
+ready_length before [] [] all = refl
+ready_length before [] (x ∷ ready) all = absurd all
+ready_length before (c ∷ cs) [] all = absurd all
+ready_length before (c ∷ cs) (x ∷ ready) all = let rest = ready_length (before ++ c ∷ []) cs ready all.2 in omega (arith, rest)
 
 alone_change : (act : Act) → IsChange (alone act) × (change_of (alone act) ≡ change_by act)
 alone_change (batched.Arrive doc t text) = (tt, refl)
 alone_change (batched.Delete doc t) = (tt, refl)
 
-pub act_taken_in : (P : List (Change (List ℕ)) → Type 0) (h : History) (batch : List Act) (acts : List NextAct) (i : ℕ) (a : NextAct) → i < length acts → a ≡ get_or acts i a → IsLoadable h → entry_refusal h (Batch batch) ≡ None
-    → map text_change acts ≡ map change_by batch → (ComesLater (changes (h ++ singles (take i batch))) (text_change a) → P (changes (h ++ singles (take i batch)) ++ text_change a ∷ []))
+pub act_taken_in : (P : List (Change (List ℕ)) → Type 0) (h : History) (batch : List Act) (ready : List NextWords) (i : ℕ) (a : NextWords) → i < length ready → a ≡ get_or ready i a → IsLoadable h → entry_refusal h (Batch batch) ≡ None
+    → AreReady (changes h) (map change_by batch) ready
+    → ((doc : DocId) (held : Option (List ℕ)) → IsPreparedBehind (words_in (changes (h ++ singles (take i batch)))) doc held a.words → ComesLater (changes (h ++ singles (take i batch))) (record { doc = doc; at = a.at; held = held })
+    → P (changes (h ++ singles (take i batch)) ++ record { doc = doc; at = a.at; held = held } ∷ []))
     → P (changes (h ++ singles (take (i + 1) batch)))
-act_taken_in P h batch acts i a within is loads may same take_in =
-    let found = act_found acts batch i a within is same in
+act_taken_in P h batch ready i a within is loads may all take_in =
+    let found = act_found (changes h) ready batch i a within is all in
     let front = singles (take i batch) in
     let g = h ++ front in
     let e = alone found.act in
     let split : singles batch ≡ front ++ e ∷ singles (drop (i + 1) batch) = ap singles (acts_split batch i found.act found.within found.is) ∙ map-append alone (take i batch) (found.act ∷ drop (i + 1) batch) in
     let at = allowed_at h front (singles (drop (i + 1) batch)) e (subst (λ (k : History). EachAllowed h k) split (batch_allowed h batch may)) in
     let change = alone_change found.act in
-    let same_change : text_change a ≡ change_of e = found.text ∙ sym change.1 in
+    let c = change_by found.act in
+    let same_change : record { doc = c.doc; at = a.at; held = c.held } ≡ change_of e = (λ j. record { doc = c.doc; at = found.at j; held = c.held }) ∙ sym change.1 in
     let later = comes_later g e change.0 (allowed_joined [] h front (come_allowed IsFitFor [] h loads) at.0) at.1 in
-    let L : Change (List ℕ) → Type 0 = λ c. ComesLater (changes g) c in
-    let taken = take_in (subst L (sym same_change) later) in
-    let more : changes (h ++ singles (take (i + 1) batch)) ≡ changes g ++ text_change a ∷ [] =
+    let L : Change (List ℕ) → Type 0 = λ x. ComesLater (changes g) x in
+    let Q : List (Change (List ℕ)) → Type 0 = λ l. IsPreparedBehind (words_in l) c.doc c.held a.words in
+    let taken = take_in c.doc c.held (subst Q (sym (changes_behind h (take i batch))) found.words) (subst L (sym same_change) later) in
+    let more : changes (h ++ singles (take (i + 1) batch)) ≡ changes g ++ record { doc = c.doc; at = a.at; held = c.held } ∷ [] =
     ap changes (ap (λ (k : History). h ++ k) (ap singles (acts_taken batch i found.act found.within found.is) ∙ map-append alone (take i batch) (found.act ∷ [])) ∙ sym (append_assoc h front (e ∷ [])))
-    ∙ changes_more g e change.0 ∙ ap (λ (c : Change (List ℕ)). changes g ++ c ∷ []) (sym same_change) in
+    ∙ changes_more g e change.0 ∙ ap (λ (x : Change (List ℕ)). changes g ++ x ∷ []) (sym same_change) in
     subst P (sym more) taken
 
-pub all_taken_in : (P : List (Change (List ℕ)) → Type 0) (h : History) (batch : List Act) (acts : List NextAct) (i : ℕ) → length acts ≤ i → map text_change acts ≡ map change_by batch → P (changes (h ++ singles (take i batch))) → P (changes (h ++ Batch batch ∷ []))
-all_taken_in P h batch acts i all same taken =
-    let long : length batch ≤ i = omega (arith, all, ap length same, length-map acts text_change, length-map batch change_by) in
+pub all_taken_in : (P : List (Change (List ℕ)) → Type 0) (h : History) (batch : List Act) (ready : List NextWords) (i : ℕ) → length ready ≤ i → AreReady (changes h) (map change_by batch) ready → P (changes (h ++ singles (take i batch))) → P (changes (h ++ Batch batch ∷ []))
+all_taken_in P h batch ready i past all taken =
+    let long : length batch ≤ i = omega (arith, past, ready_length (changes h) (map change_by batch) ready all, length-map batch change_by) in
     subst P (ap (λ (l : List Act). changes (h ++ singles l)) (take_all i batch long) ∙ sym (batch_changes h batch)) taken

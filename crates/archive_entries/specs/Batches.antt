@@ -1,7 +1,6 @@
--- Batches that are to come next: their acts with the texts and with the places of the texts.
-use Rattle.std.specs.Prelude.{◌≡◌, ℕ, ◌+◌, ◌<◌, ◌^◌, List, [], ◌∷◌, ◌++◌, length, map, All, None, Some, IfSome, Result, Ok, Err}
+-- Batches that are to come next: their changes with the places of the texts, and what an index takes of them.
+use Rattle.std.specs.Prelude.{◌≡◌, ℕ, ◌+◌, List, [], ◌∷◌, ◌++◌, map, All, None, Some, Result, Ok, Err}
 use Rattle.std.specs.List.{flat_map}
-use Rattle.std.specs.Option.{option_map}
 use Rattle.base_commands.specs.declared.batch.BatchItem.{BatchItem}
 use Rattle.base_types.specs.declared.text_place.TextPlace.{TextPlace}
 use Rattle.journal_gates.specs.Records.{first_gate}
@@ -10,8 +9,9 @@ use Rattle.lists_versions.specs.Changes.{mapped}
 use Rattle.lists_versions.specs.Coming.{AreCounted}
 use Rattle.lists_versions.specs.Refusals.{change_refusal}
 use Rattle.lists_versions.specs.Tests.{first_of}
-use Rattle.lists_index.specs.Indexes.{IndexState, Indexes}
+use Rattle.lists_index.specs.Indexes.{IndexState, Indexes, IsPreparedBehind}
 use Rattle.lists_index.specs.NewWords.{Brings}
+use Rattle.lists_index.specs.Words.{words_in}
 use Rattle.journal_entries.specs.Acts.{IsAct, acts_bytes, batch_front}
 use Rattle.journal_entries.specs.Spelling.{spelling}
 use Rattle.journal_entries.specs.declared.act.Act.{Act}
@@ -21,7 +21,7 @@ use Rattle.model_archive.specs.Legal.{EachAllowed, IsLegalEntry}
 use Rattle.model_archive.specs.Steps.{act_of, batch_cause, for_all, full_journal}
 use Rattle.archive_entries.specs.Places.{ArePlaced, acts_offset, pair_of, placed_acts}
 use Rattle.archive_entries.specs.declared.batching.Gathered.{Gathered}
-use Rattle.archive_entries.specs.declared.batching.NextAct.{NextAct}
+use Rattle.archive_entries.specs.declared.batching.NextWords.{NextWords}
 use Rattle.archive_entries.specs.declared.batching.PreparedBatch.{PreparedBatch}
 use Rattle.archive_entries.specs.declared.error.BatchDeclined.{BatchDeclined}
 use Rattle.archive_entries.specs.declared.error.BatchDeclined.TheVariants as declines
@@ -30,22 +30,18 @@ use Rattle.archive_entries.specs.declared.error.BatchDeclined.TheVariants as dec
 abbrev pub body_offset : ℕ
 body_offset = 4
 
--- the change of a document that an act makes, with the place of its text
-abbrev pub place_change : NextAct → Change TextPlace
-place_change act = act.change
-
--- the same with its text
-abbrev pub text_change : NextAct → Change (List ℕ)
-text_change act = record { doc = act.change.doc; at = act.change.at; held = option_map (λ t. t.now) act.text }
-
 -- each of these changes may come behind others and behind those before it
 abbrev pub EachMayFollow : List (Change TextPlace) → List (Change TextPlace) → Type 0
 EachMayFollow before [] = Unit {0}
 EachMayFollow before (change ∷ changes) = (change_refusal change before ≡ None) × EachMayFollow (before ++ change ∷ []) changes
 
--- the text of an act has a length of 32 bits
-abbrev pub HasShortText : NextAct → Type 0
-HasShortText act = IfSome act.text (λ t. length t.now < 2 ^ 32)
+-- these are what an index takes of changes, each prepared behind the changes before it
+abbrev pub AreReady : List (Change (List ℕ)) → List (Change (List ℕ)) → List NextWords → Type 0
+AreReady before [] [] = Unit {0}
+AreReady before (change ∷ changes) (next ∷ ready) = (next.at ≡ change.at)
+    × IsPreparedBehind (words_in before) change.doc change.held next.words
+    × AreReady (before ++ change ∷ []) changes ready
+AreReady before changes ready = ⊥
 
 -- ---- acts that are gathered one after another
 
@@ -55,35 +51,34 @@ pub record AreOf (history : History) (places : List (Change TextPlace)) (index :
   pub indexed : Indexes index (changes history)
   pub end_is : end ≡ end_of history
 
--- The acts of a batch of so many are gathered behind changes whose journal ends at this place: their changes may follow, and their places, their
--- texts and their spelling are there.
+-- The acts of a batch of so many are gathered behind changes whose journal ends at this place: their changes may follow, and their places and their
+-- spelling are there.
 pub record AreGathered (before : List (Change TextPlace)) (end count : ℕ) (batch : List Act) (gathered : Gathered) : Type 0 where
   pub counted : AreCounted before gathered.coming
   pub may : EachMayFollow before gathered.coming.changes.items
-  pub changes_are : map place_change gathered.acts.items ≡ gathered.coming.changes.items
   pub placed : map (mapped pair_of) gathered.coming.changes.items ≡ placed_acts (end + (body_offset + acts_offset)) batch
-  pub texts : map text_change gathered.acts.items ≡ map change_by batch
-  pub short : All HasShortText gathered.acts.items
   pub ranges : All IsAct batch
   pub spelled : gathered.body.items ≡ batch_front count ++ acts_bytes batch
 
--- nothing refuses them as entries of their own behind a history, and these are the words that they bring
+-- nothing refuses them as entries of their own behind a history, these are the words that they bring, and an index may take them in
 pub record AreAllowed (history : History) (batch : List Act) (gathered : Gathered) : Type 0 where
   pub allowed : EachAllowed history (singles batch)
   pub brings : Brings gathered.words (changes history) (map change_by batch)
+  pub ready : AreReady (changes history) (map change_by batch) gathered.ready.items
 
 -- ---- a batch that is prepared
 
--- A batch may come next after a history, as one entry with this spelling, whose gate is the journal's last byte; these are its acts.
-pub record IsNextBatch (history : History) (batch : List Act) (acts : List NextAct) (body : List ℕ) : Type 0 where
+-- A batch may come next after a history, as one entry with this spelling, whose gate is the journal's last byte; these are its changes with
+-- the places of their texts, and what the history's index takes of them.
+pub record IsNextBatch (history : History) (batch : List Act) (prepared : PreparedBatch) : Type 0 where
   pub legal : IsLegalEntry history (Batch batch)
-  pub texts : map text_change acts ≡ map change_by batch
-  pub placed : map (mapped pair_of) (map place_change acts) ≡ placed_acts (end_of history + (body_offset + acts_offset)) batch
-  pub spelled : body ≡ spelling (Batch batch)
+  pub ready : AreReady (changes history) (map change_by batch) prepared.words.items
+  pub placed : map (mapped pair_of) prepared.changes.items ≡ placed_acts (end_of history + (body_offset + acts_offset)) batch
+  pub spelled : prepared.body.items ≡ spelling (Batch batch)
 
 -- A batch of these items is prepared that may come next after a history, but for the journal's room; or this is why it may not.
 abbrev pub IsPreparedBatch : History → List BatchItem → Result PreparedBatch BatchDeclined → Type 0
-IsPreparedBatch history items (Ok p) = IsNextBatch history (flat_map act_of items) p.acts.items p.body.items
+IsPreparedBatch history items (Ok p) = IsNextBatch history (flat_map act_of items) p
     × (batch_cause history items ≡ first_of (for_all (full_journal history (Batch (flat_map act_of items))) ∷ []))
 IsPreparedBatch history items (Err (declines.Refused why index)) = batch_cause history items ≡ Some (record { why = why; index = index })
 IsPreparedBatch history items (Err declines.Memory) = Unit {0}

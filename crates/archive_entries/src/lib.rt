@@ -17,7 +17,7 @@ mod replaying;
 mod text;
 mod texts;
 
-pub use batching::{NextAct, PreparedBatch, note_all, prepare_batch, take_in_all};
+pub use batching::{NextWords, PreparedBatch, note_all, prepare_batch, take_in_all};
 pub use change::{TEXT_AT, note, placed};
 pub use error::{BatchDeclined, Declined, LoadError, ReadError};
 pub use laws::{changes_follow_entries, places_follow_entries};

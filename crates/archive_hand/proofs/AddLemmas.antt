@@ -40,10 +40,10 @@ use Rattle.archive_plans.specs.Shelves.{ShelfState}
 use Rattle.lists_index.specs.Indexes.{IndexState, Indexes, IsPreparedFor}
 use Rattle.lists_index.specs.declared.prepared.Prepared.{Prepared as Words}
 use Rattle.archive_hand.specs.Adding.{IsMore}
-use Rattle.archive_entries.specs.Batches.{place_change, IsNextBatch}
+use Rattle.archive_entries.specs.Batches.{IsNextBatch}
 use Rattle.archive_entries.specs.Entries.{IsNext, IsHeld, Makes, document_of, text_of}
 use Rattle.archive_entries.specs.Places.{pair_of, placed_acts, ArePlaced}
-use Rattle.archive_entries.specs.declared.batching.NextAct.{NextAct}
+use Rattle.archive_entries.specs.declared.batching.PreparedBatch.{PreparedBatch}
 use Rattle.archive_entries.proofs.IndexLemmas.{change_comes, changes_marked}
 use Rattle.archive_entries.proofs.PlaceLemmas.{placed_batch, placed_mark, placed_more}
 use Rattle.machine_model.specs.Calls.{OnlyReads}
@@ -111,23 +111,23 @@ abbrev pub with_batch : ArchiveState → ℕ → List (Change TextPlace) → Ind
 with_batch a end changes index = record a { end = end; live = true; length = a.length + 1; changes = changes; index = index }
 
 -- its changes come behind those of the entries before it
-batch_placed : (a : ArchiveState) (h : History) (batch : List Act) (acts : List NextAct) (body : List ℕ) → StandsFor a h → IsNextBatch h batch acts body → ArePlaced 16 (h ++ Batch batch ∷ []) (a.changes ++ map place_change acts)
-batch_placed a h batch acts body stands next =
+batch_placed : (a : ArchiveState) (h : History) (batch : List Act) (p : PreparedBatch) → StandsFor a h → IsNextBatch h batch p → ArePlaced 16 (h ++ Batch batch ∷ []) (a.changes ++ p.changes.items)
+batch_placed a h batch p stands next =
     let least : 17 ≤ end_of h = omega (arith, end_of-least h) in
     let gate : ℕ = end_of h - 1 in
     let at : end_of h + 9 ≡ gate + 10 = omega (arith, least) in
-    placed_batch h a.changes (a.changes ++ map place_change acts) batch gate stands.changes_are (omega (arith, least))
-    (map-append (mapped pair_of) a.changes (map place_change acts) ∙ ap (λ (l : List (Change (ℕ × ℕ))). map (mapped pair_of) a.changes ++ l) (next.placed ∙ ap (λ (n : ℕ). placed_acts n batch) at))
+    placed_batch h a.changes (a.changes ++ p.changes.items) batch gate stands.changes_are (omega (arith, least))
+    (map-append (mapped pair_of) a.changes p.changes.items ∙ ap (λ (l : List (Change (ℕ × ℕ))). map (mapped pair_of) a.changes ++ l) (next.placed ∙ ap (λ (n : ℕ). placed_acts n batch) at))
 
-pub stands_batch : (a : ArchiveState) (h : History) (batch : List Act) (acts : List NextAct) (body : List ℕ) (end : ℕ) (all : List (Change TextPlace)) (index : IndexState) → StandsFor a h → IsNextBatch h batch acts body → end ≡ a.end + 5 + length body
-    → all ≡ a.changes ++ map place_change acts → Indexes index (changes (h ++ Batch batch ∷ [])) → StandsFor (with_batch a end all index) (h ++ Batch batch ∷ [])
-stands_batch a h batch acts body end all index stands next at noted indexed =
+pub stands_batch : (a : ArchiveState) (h : History) (batch : List Act) (p : PreparedBatch) (end : ℕ) (all : List (Change TextPlace)) (index : IndexState) → StandsFor a h → IsNextBatch h batch p → end ≡ a.end + 5 + length p.body.items
+    → all ≡ a.changes ++ p.changes.items → Indexes index (changes (h ++ Batch batch ∷ [])) → StandsFor (with_batch a end all index) (h ++ Batch batch ∷ [])
+stands_batch a h batch p end all index stands next at noted indexed =
     let live : live_plans (h ++ Batch batch ∷ []) ≡ live_plans h = same_live h (Batch batch) tt in
     record {
       loadable = loadable-push h (Batch batch) stands.loadable (entry_loads h (Batch batch) next.legal);
       end_is = omega (arith, at, stands.end_is, end_of-push h (Batch batch), ap length next.spelled);
       length_is = omega (arith, stands.length_is, length_push h (Batch batch));
-      changes_are = rw noted (batch_placed a h batch acts body stands next);
+      changes_are = rw noted (batch_placed a h batch p stands next);
       index_is = indexed;
       plans_are = stands.plans_are ∙ sym live;
       pages_are = rw live stands.pages_are;

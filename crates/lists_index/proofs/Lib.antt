@@ -4,6 +4,7 @@ mod Keeping
 mod Measures
 mod Measured
 mod NumberSteps
+mod Behind
 mod Lookups
 mod Loading
 mod NewWordSteps

@@ -60,7 +60,7 @@ weight-sum n (p ∷ ps) h = by (nat_eq p.0 n) refl (weight-sum n ps (IsDistinct-
         omega (arith, none)
     by false e rest = rest ∙ omega arith
 
-once-sorted : (ps qs : List (ℕ × ℕ)) → IsPermutation ps qs → IsDistinct nat_eq (map (λ p. p.0) ps) → IsDistinct nat_eq (map (λ p. p.0) qs)
+pub once-sorted : (ps qs : List (ℕ × ℕ)) → IsPermutation ps qs → IsDistinct nat_eq (map (λ p. p.0) ps) → IsDistinct nat_eq (map (λ p. p.0) qs)
 once-sorted ps qs p h = IsDistinct-IsPermutation nat_eq (λ x y. grind (arith, nat_tests)) (map (λ p. p.0) ps) (map (λ p. p.0) qs) (IsPermutation-map (λ p. p.0) ps qs p) h
 
 -- sorted pairs of numbers that stand once are weights
@@ -79,6 +79,8 @@ pub sorted-weights : (counts sorted : List (ℕ × ℕ)) (weights : List Weight)
 sorted-weights counts sorted weights p up once e =
     ascend weights (subst (IsNonDecreasingBy (λ p. p.0)) (sym e) up) (subst (λ ps. IsDistinct nat_eq (map (λ p. p.0) ps)) (sym e) (once-sorted counts sorted p once))
 
+pub weight-permuted : (ps qs : List (ℕ × ℕ)) → IsPermutation ps qs → IsDistinct nat_eq (map (λ p. p.0) ps) → (w : ℕ) → weight_at w qs ≡ weight_at w ps
+weight-permuted ps qs p once w = weight-sum w qs (once-sorted ps qs p once) ∙ sum_by-IsPermutation (share w) ps qs p ∙ sym (weight-sum w ps once)
+
 pub sorted-counts : (counts sorted : List (ℕ × ℕ)) (weights : List Weight) → IsPermutation counts sorted → IsDistinct nat_eq (map (λ p. p.0) counts) → pairs_of weights ≡ sorted → (w : ℕ) → weight_of w weights ≡ weight_at w counts
-sorted-counts counts sorted weights p once e w =
-    weight-pairs w weights ∙ ap (weight_at w) e ∙ weight-sum w sorted (once-sorted counts sorted p once) ∙ sum_by-IsPermutation (share w) counts sorted p ∙ sym (weight-sum w counts once)
+sorted-counts counts sorted weights p once e w = weight-pairs w weights ∙ ap (weight_at w) e ∙ weight-permuted counts sorted p once w

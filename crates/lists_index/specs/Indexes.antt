@@ -48,7 +48,11 @@ pub record HasRoom (index : IndexState) (change : Prepared) : Type 0 where
   pub newest_room : 1 ≤ index.more_documents
   pub few : index.turns < 2 ^ 40
 
--- it was prepared for this document and this text, or for its deletion
-pub record IsPreparedFor (index : IndexState) (doc : DocId) (held : Option (List ℕ)) (change : Prepared) : Type 0 where
+-- it was prepared for this document and this text, or for its deletion, where these are the words
+pub record IsPreparedBehind (words : List (List ℕ)) (doc : DocId) (held : Option (List ℕ)) (change : Prepared) : Type 0 where
   pub doc_is : change.doc ≡ doc
-  pub measured : IsMeasured index.words held change.fresh.items change.weights
+  pub measured : IsMeasured words held change.fresh.items change.weights
+
+-- and where they are an index's
+abbrev pub IsPreparedFor : IndexState → DocId → Option (List ℕ) → Prepared → Type 0
+IsPreparedFor index doc held change = IsPreparedBehind index.words doc held change

@@ -1,14 +1,16 @@
 -- A text by the numbers of its words.
 use Rattle.std.specs.Prelude.{◌≡◌, ℕ, ◌+◌, List, [], ◌∷◌, map, slice_get, Option}
+use Rattle.std.specs.List.Sorted.{IsPermutation}
 use Rattle.text_words.specs.Words.{with_all, counted, known_of, fresh_of}
 use Rattle.lists_tails.specs.declared.weight.Weight.{Weight}
 use Rattle.lists_tails.specs.Weights.{weight_of}
 use Rattle.lists_index.specs.Words.{keys_held, count_of}
 
--- a text's words for a vocabulary of these words: the counts of those that it knows, by number, and the others apart from their counts
+-- a text's words for a vocabulary of these words: the counts of those that it knows, by number and in any order, and the others apart
+-- from their counts
 pub record IsParted (words : List (List ℕ)) (held : Option (List ℕ)) (known : List (ℕ × ℕ)) (fresh : List (List ℕ))
     (counts : List ℕ) : Type 0 where
-  pub known_are : known ≡ known_of words (counted (keys_held held))
+  pub known_are : IsPermutation (known_of words (counted (keys_held held))) known
   pub fresh_are : fresh ≡ map (λ e. e.0) (fresh_of words (counted (keys_held held)))
   pub counts_are : counts ≡ map (λ e. e.1) (fresh_of words (counted (keys_held held)))
 

@@ -1,13 +1,13 @@
 //! The index.
-ghost use Rattle.std.specs.Prelude.{◌≡◌, ℕ, ◌<◌, ◌≤◌, ◌^◌, ◌↔◌, List, [], ◌∷◌, ◌++◌, length, Option, option_map, Contains, Err, IfOk, OnOk, OnErr, map, IfSome, IsSome, IsTrue};
-ghost use Rattle.text_words.specs.Words.{number_of, with_all, counted, fresh_of};
+ghost use Rattle.std.specs.Prelude.{◌≡◌, ℕ, ◌<◌, ◌≤◌, ◌^◌, ◌↔◌, List, [], ◌∷◌, ◌++◌, length, Option, option_map, Contains, Err, IfOk, OnOk, OnErr, IfSome, IsSome, IsTrue};
+ghost use Rattle.text_words.specs.Words.{number_of, with_all, counted, known_of, fresh_of};
 ghost use Rattle.lists_versions.specs.declared.change.Change.{Change};
 ghost use Rattle.lists_index.specs.Words.{words_in, keys_held, IsWordList, IsWordPart};
 ghost use Rattle.lists_index.specs.Indexing.{ComesLater};
 ghost use Rattle.lists_index.specs.declared.prepared.Prepared.{Prepared};
 ghost use Rattle.lists_index.specs.Indexes.{state_of, seen, Indexes, HasRoom, IsPreparedFor};
 
-use crate::measure::{Measured, fresh_keys, measure};
+use crate::measure::{Measured, measure, weigh_held};
 use crate::newest::Newest;
 use crate::numbering::number_all;
 use crate::part::ListPart;
@@ -16,7 +16,7 @@ use crate::word_tails::WordTails;
 use base_types::{DocId, Key, Posting, Span, Time, WordId};
 use lists_versions::held_as_changes_come;
 use std::alloc::{AllocError, Global};
-use text_words::{NumberError, Places, Vocabulary};
+use text_words::{NumberError, Places, Vocabulary, Weighed};
 
 /// For each word of all versions so far, the list of how often each document has it at each time.
 ///
@@ -76,7 +76,8 @@ impl Index {
 
     /// How many words the texts have, below which all numbers are. Constant cost.
     pub fn words(&self) -> u32
-        ensures { result ≡ length (state_of self.now).words }
+        ensures count { result ≡ length (state_of self.now).words }
+        ensures few { result ≤ 2 ^ 20 }
     {
         self.vocabulary.len()
     }
@@ -109,37 +110,27 @@ impl Index {
         })
     }
 
-    /// The words of a text that no text has. Nothing changes. The text is read once.
-    pub(crate) fn fresh_keys(
-        &mut self,
-        alloc: Global,
-        text: Option<&str>,
-    ) -> Result<Vec<Key>, AllocError>
+    /// The words of a text with their counts; none of a deletion. Nothing changes. The text is read once.
+    pub(crate) fn weigh(&mut self, alloc: Global, text: Option<&str>) -> Result<Weighed, AllocError>
         requires { IfSome text (λ t. length t.now < 2 ^ 32) }
-        ensures keys { IfOk result
-            (λ keys. keys.items ≡ map (λ e. e.0)
-            (fresh_of (state_of self.old).words (counted (keys_held (option_map (λ t. t.now) text.entry))))) }
+        ensures known { IfOk result
+            (λ w. w.known.items ≡ known_of (state_of self.old).words (counted (keys_held (option_map (λ t. t.now) text.entry)))) }
+        ensures fresh { IfOk result
+            (λ w. w.fresh.items ≡ fresh_of (state_of self.old).words (counted (keys_held (option_map (λ t. t.now) text.entry)))) }
         ensures same { state_of self.new ≡ state_of self.old }
     {
-        fresh_keys(alloc, &self.vocabulary, &mut self.places, text)
+        weigh_held(alloc, &self.vocabulary, &mut self.places, text)
     }
 
-    /// Makes a change at once: measures its text, makes room for it and makes it, at a time behind the
-    /// document's earlier ones. An `Err` changes no answer. It costs what these three do.
-    pub fn take_in(
-        &mut self,
-        alloc: Global,
-        doc: DocId,
-        at: Time,
-        text: Option<&str>,
-    ) -> Result<(), NumberError>
-        requires { IfSome text (λ t. length t.now < 2 ^ 32) }
-        ensures taken { OnOk result ((changes : List (Change (List ℕ))) → Indexes (state_of self.old) changes
-            → ComesLater changes (record { doc = doc; at = at; held = option_map (λ t. t.now) text.entry })
-            → Indexes (state_of self.new) (changes ++ record { doc = doc; at = at; held = option_map (λ t. t.now) text.entry } ∷ [])) }
+    /// Makes a prepared change at once, at a time behind the document's earlier ones: makes room for it and
+    /// makes it. An `Err` changes no answer. It costs what the two do.
+    pub fn take_in(&mut self, change: Prepared, at: Time) -> Result<(), NumberError>
+        ensures taken { OnOk result ((changes : List (Change (List ℕ))) (doc : DocId) (held : Option (List ℕ))
+            → Indexes (state_of self.old) changes → IsPreparedFor (state_of self.old) doc held change
+            → ComesLater changes (record { doc = doc; at = at; held = held })
+            → Indexes (state_of self.new) (changes ++ record { doc = doc; at = at; held = held } ∷ [])) }
         ensures same { OnErr result (seen (state_of self.new) ≡ seen (state_of self.old)) }
     {
-        let change = self.prepare(alloc, doc, text)?;
         self.make_room(&change)?;
         self.commit(change, at);
         Ok(())

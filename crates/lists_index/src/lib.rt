@@ -4,8 +4,9 @@
 //! Its model is the list of changes so far, each a new text of a document or its deletion. An
 //! `Index` numbers the words, keeps each word's list, and for each document the weights of its
 //! newest version. A change is prepared, which makes all room and changes no answer, and then
-//! committed, which takes no memory and can't fail. A `Loader` takes the changes of a whole history
-//! and makes all lists at once. The crate knows nothing of entries, journals, places or disks.
+//! committed, which takes no memory and can't fail. `NewWords` prepares changes that are to come all
+//! at once, each behind those before it. A `Loader` takes the changes of a whole history and makes
+//! all lists at once. The crate knows nothing of entries, journals, places or disks.
 #![tactic(auto)]
 
 mod index;

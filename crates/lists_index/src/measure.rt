@@ -1,6 +1,7 @@
 //! A text by the numbers of its words.
 ghost use Rattle.std.specs.Prelude.{◌≡◌, ℕ, ◌+◌, ◌<◌, ◌≤◌, ◌^◌, ◌++◌, List, Option, length, map, option_map, nat_eq, All, Err, IfOk, OnOk, IfSome, IsSome};
 ghost use Rattle.std.specs.List.{IsDistinct};
+ghost use Rattle.std.specs.Str.{bytes_eq};
 ghost use Rattle.text_words.specs.Words.{counted, known_of, fresh_of, weight_at};
 ghost use Rattle.lists_tails.specs.Weights.{weight_of};
 ghost use Rattle.lists_index.specs.Words.{keys_held};
@@ -23,14 +24,14 @@ pub(crate) struct Measured {
 
 /// A text's words: the counts of those with a number by number, and the others apart from theirs.
 #[derive(Drop)]
-struct Parted {
+pub(crate) struct Parted {
     known: Vec<(u32, u32)>,
     fresh: Vec<Key>,
     counts: Vec<u32>,
 }
 
-/// The words of a text with their counts; none of a deletion.
-fn weigh_held(
+/// The words of a text with their counts; none of a deletion. The text is read once.
+pub(crate) fn weigh_held(
     alloc: Global,
     vocabulary: &Vocabulary,
     places: &mut Places,
@@ -64,6 +65,40 @@ fn part(alloc: Global, weighed: Weighed) -> Result<Parted, AllocError>
     for (key, count) in fresh {
         keys.push(key)?;
         counts.push(count)?;
+    }
+    Ok(Parted {
+        known,
+        fresh: keys,
+        counts,
+    })
+}
+
+/// The fresh words apart from their counts, but for those that earlier texts brought: these are known by
+/// the numbers from `words` on. It costs a look-up for each fresh word.
+pub(crate) fn part_behind(
+    alloc: Global,
+    weighed: Weighed,
+    words: u32,
+    brought: &Vocabulary,
+) -> Result<Parted, AllocError>
+    requires { words ≤ 2 ^ 20 }
+    ensures { IfOk result (λ p. (front : List (List ℕ)) (held : Option (List ℕ)) → words ≡ length front
+        → weighed.known.items ≡ known_of front (counted (keys_held held))
+        → weighed.fresh.items ≡ fresh_of front (counted (keys_held held))
+        → IsParted (front ++ brought.now.words) held p.known.items p.fresh.items p.counts.items) }
+{
+    let Weighed { known, fresh } = weighed;
+    let mut known = known;
+    let mut keys = Vec::new(alloc);
+    let mut counts = Vec::new(alloc);
+    for (key, count) in fresh {
+        match brought.find(&key) {
+            Some(id) => known.push((words + id.number(), count))?,
+            None => {
+                keys.push(key)?;
+                counts.push(count)?;
+            }
+        }
     }
     Ok(Parted {
         known,
@@ -116,22 +151,16 @@ fn weights_by(alloc: Global, counts: Vec<(u32, u32)>) -> Result<Weights, AllocEr
     Ok(Weights::new(items))
 }
 
-/// Measures a text, or nothing for a deletion. The text is read once.
-pub(crate) fn measure(
-    alloc: Global,
-    vocabulary: &Vocabulary,
-    places: &mut Places,
-    text: Option<&str>,
-) -> Result<Measured, NumberError>
-    requires { IfSome text (λ t. length t.now < 2 ^ 32) }
-    ensures measured { IfOk result (λ m. IsMeasured vocabulary.now.words (option_map (λ t. t.now) text.entry) m.fresh.items m.weights) }
-    ensures fits { OnOk result (length (words_with vocabulary.now.words (option_map (λ t. t.now) text.entry)) ≤ 2 ^ 20) }
-    ensures full { result ≡ Err NumberError.Full → 2 ^ 20 < length (words_with vocabulary.now.words (option_map (λ t. t.now) text.entry)) }
-    ensures some { result ≡ Err NumberError.Full → IsSome text.entry }
+/// What a text has, where its fresh words are to be numbered from `words` on.
+pub(crate) fn by_number(alloc: Global, words: u32, parted: Parted) -> Result<Measured, NumberError>
+    requires { (all : List (List ℕ)) × (held : Option (List ℕ)) × (words ≡ length all)
+        × IsParted all held parted.known.items parted.fresh.items parted.counts.items }
+    ensures measured { IfOk result (λ m. (all : List (List ℕ)) (held : Option (List ℕ)) → words ≡ length all → IsDistinct bytes_eq all
+        → IsParted all held parted.known.items parted.fresh.items parted.counts.items → IsMeasured all held m.fresh.items m.weights) }
+    ensures fresh { IfOk result (λ m. m.fresh.items ≡ parted.fresh.items) }
+    ensures fits { OnOk result (words + length parted.counts.items ≤ 2 ^ 20) }
+    ensures full { result ≡ Err NumberError.Full → 2 ^ 20 < words + length parted.counts.items }
 {
-    let words = vocabulary.len();
-    let weighed = weigh_held(alloc, vocabulary, places, text)?;
-    let parted = part(alloc, weighed)?;
     let Parted {
         known,
         fresh,
@@ -145,18 +174,20 @@ pub(crate) fn measure(
     Ok(Measured { fresh, weights })
 }
 
-/// The words of a text, or of nothing for a deletion, that have no number. The text is read once.
-pub(crate) fn fresh_keys(
+/// Measures a text, or nothing for a deletion. The text is read once.
+pub(crate) fn measure(
     alloc: Global,
     vocabulary: &Vocabulary,
     places: &mut Places,
     text: Option<&str>,
-) -> Result<Vec<Key>, AllocError>
+) -> Result<Measured, NumberError>
     requires { IfSome text (λ t. length t.now < 2 ^ 32) }
-    ensures { IfOk result (λ keys. keys.items
-        ≡ map (λ e. e.0) (fresh_of vocabulary.now.words (counted (keys_held (option_map (λ t. t.now) text.entry))))) }
+    ensures measured { IfOk result (λ m. IsMeasured vocabulary.now.words (option_map (λ t. t.now) text.entry) m.fresh.items m.weights) }
+    ensures fits { OnOk result (length (words_with vocabulary.now.words (option_map (λ t. t.now) text.entry)) ≤ 2 ^ 20) }
+    ensures full { result ≡ Err NumberError.Full → 2 ^ 20 < length (words_with vocabulary.now.words (option_map (λ t. t.now) text.entry)) }
+    ensures some { result ≡ Err NumberError.Full → IsSome text.entry }
 {
     let weighed = weigh_held(alloc, vocabulary, places, text)?;
     let parted = part(alloc, weighed)?;
-    Ok(parted.fresh)
+    by_number(alloc, vocabulary.len(), parted)
 }

@@ -1,8 +1,8 @@
 -- The latest change of a document, and how many documents there are, as changes come.
-use Rattle.std.specs.Prelude.{◌≡◌, ℕ, ◌+◌, ◌<◌, Bool, true, false, cond, ◌||◌, ◌==◌, List, [], ◌∷◌, ◌++◌, fold, length, take, get_or, Option, Some, None, is_some, refl}
-use Rattle.std.proofs.Common.{arith, ap, sym, ◌∙◌, inl, inr, append_assoc}
+use Rattle.std.specs.Prelude.{◌≡◌, ℕ, ◌+◌, Bool, true, false, cond, ◌||◌, ◌==◌, List, [], ◌∷◌, ◌++◌, fold, length, Option, Some, None, is_some, refl}
+use Rattle.std.proofs.Common.{arith, ap, sym, ◌∙◌, inl, inr, append_assoc, append-nil}
 use Rattle.std.proofs.lemmas.Bool.Decides.{nat_tests}
-use Rattle.std.proofs.lemmas.List.{take_more}
+use Rattle.std.proofs.lemmas.List.Elements.{filter-append}
 use Rattle.std.proofs.lemmas.List.Sorted.{length_permutation}
 use Rattle.base_types.specs.declared.ids.DocId.{DocId}
 use Rattle.lists_versions.specs.declared.change.Change.{Change}
@@ -19,10 +19,37 @@ latest-same doc changes c e = ap last_of (changes_of-same doc changes c e) ∙ l
 pub latest-other : {A : Type 0} (doc : DocId) (changes : List (Change A)) (c : Change A) → c.doc.0 == doc.0 ≡ false → latest doc (changes ++ c ∷ []) ≡ latest doc changes
 latest-other doc changes c e = ap last_of (changes_of-other doc changes c e)
 
--- one change more of those that come
-pub taken : {A : Type 0} (before changes : List A) (k : ℕ) (c : A) → k < length changes → c ≡ get_or changes k c → before ++ take (k + 1) changes ≡ (before ++ take k changes) ++ c ∷ []
-taken {A} before changes k c lt is =
-    ap (λ (xs : List A). before ++ xs) (take_more changes k c lt ∙ ap (λ (x : A). take k changes ++ x ∷ []) (sym is)) ∙ sym (append_assoc before (take k changes) (c ∷ []))
+-- among changes behind others, the latest of those where there is one, and else the others'
+last-behind : {A : Type 0} (xs : List A) (y : A) (ys : List A) → last_of (xs ++ y ∷ ys) ≡ last_of (y ∷ ys)
+last-behind [] y ys = refl
+last-behind (x ∷ []) y ys = last_of-cons x y ys
+last-behind (x ∷ z ∷ xs) y ys = last_of-cons x z (xs ++ y ∷ ys) ∙ last-behind (z ∷ xs) y ys
+
+last-there : {A : Type 0} (x : A) (xs : List A) → is_some (last_of (x ∷ xs)) ≡ true
+last-there x [] = refl
+last-there x (y ∷ xs) = ap is_some (last_of-cons x y xs) ∙ last-there y xs
+
+last-back : {A : Type 0} (xs ys : List A) (c : A) → last_of ys ≡ Some c → last_of (xs ++ ys) ≡ Some c
+last-back xs [] c is = absurd cc
+last-back xs (y ∷ ys) c is = last-behind xs y ys ∙ is
+
+last-front : {A : Type 0} (xs ys : List A) → last_of ys ≡ None → last_of (xs ++ ys) ≡ last_of xs
+last-front xs [] none = ap last_of (append-nil xs)
+last-front xs (y ∷ ys) none = let some : true ≡ false = sym (last-there y ys) ∙ ap is_some none in absurd cc
+
+pub latest-back : {A : Type 0} (doc : DocId) (before coming : List (Change A)) (c : Change A) → latest doc coming ≡ Some c → latest doc (before ++ coming) ≡ Some c
+latest-back doc before coming c is = ap last_of (filter-append (λ d. d.doc.0 == doc.0) before coming) ∙ last-back (changes_of doc before) (changes_of doc coming) c is
+
+pub latest-front : {A : Type 0} (doc : DocId) (before coming : List (Change A)) → latest doc coming ≡ None → latest doc (before ++ coming) ≡ latest doc before
+latest-front doc before coming none = ap last_of (filter-append (λ d. d.doc.0 == doc.0) before coming) ∙ last-front (changes_of doc before) (changes_of doc coming) none
+
+-- whoever keeps the latest ones goes on
+pub newest-more : {A : Type 0} (c : Change A) (old new : List (Change A)) (was now : DocId → Option (Change A)) → new ≡ old ++ c ∷ [] → ((d : DocId) → was d ≡ latest d old) → ((d : DocId) → now d ≡ cond (c.doc.0 == d.0) (Some c) (was d)) → (d : DocId) → now d ≡ latest d new
+newest-more {A} c old new was now is so_far put d = put d ∙ go (c.doc.0 == d.0) refl ∙ ap (latest d) (sym is)
+  where
+    go : (b : Bool) → c.doc.0 == d.0 ≡ b → cond b (Some c) (was d) ≡ latest d (old ++ c ∷ [])
+    go true e = sym (latest-same d old c e)
+    go false e = so_far d ∙ sym (latest-other d old c e)
 
 -- ---- which documents there are
 
@@ -57,10 +84,6 @@ has-put d e (f ∷ fs) = elim (order_of e f) [
   ]
 ]
 
-last-there : {A : Type 0} (x : A) (xs : List A) → is_some (last_of (x ∷ xs)) ≡ true
-last-there x [] = refl
-last-there x (y ∷ xs) = ap is_some (last_of-cons x y xs) ∙ last-there y xs
-
 latest-cons : {A : Type 0} (doc : DocId) (x : Change A) (cs : List (Change A)) → is_some (latest doc (x ∷ cs)) ≡ ((doc.0 == x.doc.0) || is_some (latest doc cs))
 latest-cons {A} doc x cs = rw (eqb-swap doc.0 x.doc.0) (go (x.doc.0 == doc.0))
   where
@@ -86,15 +109,6 @@ count-new cs c none =
 
 pub count-known : {A : Type 0} (cs : List (Change A)) (c : Change A) → is_some (latest c.doc cs) ≡ true → length (documents (cs ++ c ∷ [])) ≡ length (documents cs)
 count-known cs c some = ap length (documents-push cs c ∙ put-there 0 c.doc (documents cs) (documents-above cs) (known-by-latest c.doc cs ∙ some))
-
--- the document's latest change as one more comes
-pub latest-next : {A : Type 0} (doc : DocId) (before coming : List (Change A)) (k : ℕ) (c : Change A) (found : Option (Change A)) → k < length coming → c ≡ get_or coming k c → found ≡ latest doc (before ++ take k coming)
-    → cond (c.doc.0 == doc.0) (Some c) found ≡ latest doc (before ++ take (k + 1) coming)
-latest-next {A} doc before coming k c found lt is so_far = go (c.doc.0 == doc.0) refl ∙ ap (latest doc) (sym (taken before coming k c lt is))
-  where
-    go : (b : Bool) → c.doc.0 == doc.0 ≡ b → cond b (Some c) found ≡ latest doc ((before ++ take k coming) ++ c ∷ [])
-    go true e = sym (latest-same doc (before ++ take k coming) c e)
-    go false e = so_far ∙ sym (latest-other doc (before ++ take k coming) c e)
 
 -- the count as one more comes
 pub counted-new : {A : Type 0} (before old new : List (Change A)) (c : Change A) (fresh : ℕ) → new ≡ old ++ c ∷ [] → latest c.doc (before ++ old) ≡ None

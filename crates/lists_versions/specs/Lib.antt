@@ -7,5 +7,6 @@ pub mod Links
 pub mod Lives
 pub mod Refusals
 pub mod Tests
+pub mod Newest
 pub mod Coming
 pub mod Walks

@@ -1,5 +1,5 @@
 //! Changes that are to come all at once.
-ghost use Rattle.std.specs.Prelude.{◌≡◌, ◌==◌, [], ◌∷◌, ◌++◌, List, Some, if◌then◌else◌, OnOk, MatchResult};
+ghost use Rattle.std.specs.Prelude.{◌≡◌, [], ◌∷◌, ◌++◌, List, Some, OnOk, MatchResult};
 ghost use Rattle.base_types.specs.declared.text_place.TextPlace.{TextPlace};
 ghost use Rattle.lists_versions.specs.declared.change.Change.{Change as PlainChange};
 ghost use Rattle.lists_versions.specs.Changes.{last_time, latest};
@@ -8,6 +8,7 @@ ghost use Rattle.lists_versions.specs.Coming.{AreCounted};
 
 use crate::change::Change;
 use crate::directory::{Directory, full};
+use crate::newest::Newest;
 use crate::refusal::VersionRefusal;
 use base_types::{DocId, TextPlace, Time, Which};
 use std::alloc::{AllocError, Global};
@@ -17,6 +18,8 @@ use std::alloc::{AllocError, Global};
 pub struct Coming {
     /// The changes in their order.
     changes: Vec<Change<TextPlace>>,
+    /// Each document's latest one.
+    newest: Newest,
     /// How many documents come with them that the directory hasn't.
     fresh: usize,
 }
@@ -29,6 +32,7 @@ impl Coming {
     {
         Coming {
             changes: Vec::new(alloc),
+            newest: Newest::new(alloc),
             fresh: 0,
         }
     }
@@ -50,15 +54,15 @@ impl Coming {
         }
     }
 
-    /// The document's latest version or tombstone. One look-up, and one pass over the changes.
+    /// The document's latest version or tombstone. Two look-ups at most.
     fn latest(&self, directory: &Directory, doc: DocId) -> Option<Change<TextPlace>>
+        requires { AreCounted directory.now.changes self.now }
         ensures { result ≡ latest doc (directory.now.changes ++ self.now.changes.items) }
     {
-        let mut found = directory.latest(doc);
-        for change in &self.changes {
-            found = newer(found, change, doc);
+        match self.newest.of(doc) {
+            Some(change) => Some(change),
+            None => directory.latest(doc),
         }
-        found
     }
 
     /// The refusal of a time that lies before the last change's.
@@ -118,6 +122,7 @@ impl Coming {
 
     /// Whether the document may be deleted behind these changes, or the first cause why not.
     fn may_delete(&self, directory: &Directory, doc: DocId, at: Time) -> Result<(), VersionRefusal>
+        requires { AreCounted directory.now.changes self.now }
         ensures { MatchResult result
             (λ _. delete_refusal doc at (directory.now.changes ++ self.now.changes.items) ≡ None)
             (λ e. delete_refusal doc at (directory.now.changes ++ self.now.changes.items) ≡ Some e) }
@@ -139,7 +144,7 @@ impl Coming {
     }
 
     /// Whether a change may come behind the directory's and these, or the first cause why not: those of
-    /// `Directory::may_arrive` or `may_delete`. It costs one look-up, and one pass over the changes.
+    /// `Directory::may_arrive` or `may_delete`. It costs two look-ups at most.
     pub fn may_come(
         &self,
         directory: &Directory,
@@ -156,8 +161,7 @@ impl Coming {
         }
     }
 
-    /// Adds a change. An `Err` leaves them as they were. It costs one look-up, and one pass over the
-    /// changes.
+    /// Adds a change. An `Err` leaves them as they were. It costs three look-ups at most.
     pub fn add(
         &mut self,
         directory: &Directory,
@@ -168,7 +172,9 @@ impl Coming {
         ensures counted { OnOk result (AreCounted directory.now.changes self.new) }
     {
         let before = self.latest(directory, change.doc);
-        self.changes.push(change)?;
+        self.changes.reserve(1)?;
+        self.newest.put(change)?;
+        self.changes.push_reserved(change);
         match before {
             Some(_) => Ok(()),
             None => {
@@ -176,20 +182,5 @@ impl Coming {
                 Ok(())
             }
         }
-    }
-}
-
-/// The change where it is the document's, and otherwise what was found.
-fn newer(
-    found: Option<Change<TextPlace>>,
-    change: &Change<TextPlace>,
-    doc: DocId,
-) -> Option<Change<TextPlace>>
-    ensures { result ≡ (if change.now.doc.0 == doc.0 then Some change.now else found) }
-{
-    if change.doc.0 == doc.0 {
-        Some(*change)
-    } else {
-        found
     }
 }

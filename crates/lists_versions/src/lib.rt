@@ -14,6 +14,7 @@ mod last_life;
 mod laws;
 mod link;
 mod lives;
+mod newest;
 mod refusal;
 mod walk;
 

@@ -86,21 +86,3 @@ behind_from words seen (k ∷ found) = ap (λ l. with_all l found) (entered-new 
 -- and they stand behind the words that were there
 pub with_all-behind : (words found : List (List ℕ)) → with_all words found ≡ words ++ new_in words (distinct found)
 with_all-behind words found = ap (λ l. with_all l found) (sym (append-nil words)) ∙ behind_from words [] found
-
--- the new words of a text are also all that a longer vocabulary has to take of it
-pub with_all-new-behind : (words rest found : List (List ℕ)) → with_all (words ++ rest) (new_in words (distinct found)) ≡ with_all (words ++ rest) found
-with_all-new-behind words rest found = skip-known words rest (distinct found) ∙ with_all-with_all (words ++ rest) [] found
-
--- words that are none of those in front stand behind them as they would by themselves
-with_all-apart : (words rest found : List (List ℕ)) → with_all (words ++ rest) (new_in words found) ≡ words ++ with_all rest (new_in words found)
-with_all-apart words rest [] = refl
-with_all-apart words rest (k ∷ found) = by (list_any (bytes_eq k) words) refl (λ r. with_all-apart words r found)
-  where
-    by : (b : Bool) → list_any (bytes_eq k) words ≡ b → ((r : List (List ℕ)) → with_all (words ++ r) (new_in words found) ≡ words ++ with_all r (new_in words found))
-        → with_all (words ++ rest) (cond (not b) (k ∷ new_in words found) (new_in words found)) ≡ words ++ with_all rest (cond (not b) (k ∷ new_in words found) (new_in words found))
-    by true e h = h rest
-    by false e h = ap (λ l. with_all l (new_in words found)) (entered-fresh words rest k e) ∙ h (entered rest k)
-
--- so the words that texts bring, one after another, are counted apart
-pub with_all-beside : (words rest found : List (List ℕ)) → with_all (words ++ rest) found ≡ words ++ with_all rest (new_in words (distinct found))
-with_all-beside words rest found = sym (with_all-new-behind words rest found) ∙ with_all-apart words rest (distinct found)

@@ -6,7 +6,7 @@ ghost use Rattle.lists_index.specs.Loads.{Loads};
 
 use crate::tests::given::{Row, expect_list, expect_same, expect_same_in};
 use base_types::{DocId, Key, NOW, Span, Time};
-use lists_index::{Index, ListPart, Loader};
+use lists_index::{Index, ListPart, Loader, NewWords, Prepared};
 use std::alloc::Global;
 use std::process::Abort;
 use text_words::NumberError;
@@ -74,6 +74,37 @@ fn committed(rt: &impl Abort, alloc: Global, rows: &[(u32, Option<&str>)]) -> In
     for i in 0..rows.len() {
         let (doc, text) = rows[i];
         commit(rt, alloc, &mut index, DocId(doc), time_at(i), text);
+    }
+    index
+}
+
+/// These changes, prepared all at once, each behind those before it.
+fn prepared(
+    rt: &impl Abort,
+    alloc: Global,
+    index: &mut Index,
+    rows: &[(u32, Option<&str>)],
+) -> Vec<Prepared> {
+    let mut words = NewWords::new(alloc).expect(rt, "memory");
+    let mut changes = Vec::new(alloc);
+    for (doc, text) in rows {
+        assert!(rt; is_short(*text));
+        let change = words.add(alloc, index, DocId(*doc), *text);
+        changes.reserve(1).expect(rt, "memory");
+        changes.push_reserved(change.expect(rt, "room"));
+    }
+    changes
+}
+
+/// The index of these changes, which are made when all are prepared.
+fn at_once(rt: &impl Abort, alloc: Global, rows: &[(u32, Option<&str>)]) -> Index {
+    let mut index = committed(rt, alloc, &[]);
+    let changes = prepared(rt, alloc, &mut index, rows);
+    let mut place = 0;
+    for change in changes {
+        assert!(rt; place < 1000);
+        index.take_in(change, time_at(place)).expect(rt, "room");
+        place += 1;
     }
     index
 }
@@ -169,11 +200,13 @@ const HISTORIES: [History; 3] = [
     },
 ];
 
-/// After the changes of a history, committed or loaded, the words' lists are its.
+/// After the changes of a history, committed one after another, made at once or loaded, the words' lists are
+/// its.
 fn expect_history(rt: &impl Abort, alloc: Global, history: &History) {
     let changes = history.changes;
     assert!(rt; changes.len() < 1000);
     expect_words_of(rt, alloc, committed(rt, alloc, changes), history.lists);
+    expect_words_of(rt, alloc, at_once(rt, alloc, changes), history.lists);
     expect_words_of(rt, alloc, loaded(rt, alloc, changes), history.lists);
 }
 
@@ -187,6 +220,27 @@ fn words_have_the_lists_of_their_versions(rt: HostRuntime) {
     for history in &HISTORIES {
         expect_history(&rt, rt.alloc(), history);
     }
+}
+
+/// The word has this number.
+fn expect_number(rt: &impl Abort, alloc: Global, index: &Index, word: &str, wanted: u32) {
+    let number = index.number(&key(rt, alloc, word)).expect(rt, "a number");
+    expect_same_in(rt, word, number.number(), wanted);
+}
+
+#[test]
+fn a_word_that_texts_bring_at_once_has_one_number(rt: HostRuntime) {
+    let alloc = rt.alloc();
+    let changes = [
+        (1, Some("red blue")),
+        (2, Some("blue green")),
+        (1, Some("green red")),
+    ];
+    let index = at_once(&rt, alloc, &changes);
+    expect_same(&rt, index.words(), 3);
+    expect_number(&rt, alloc, &index, "red", 0);
+    expect_number(&rt, alloc, &index, "blue", 1);
+    expect_number(&rt, alloc, &index, "green", 2);
 }
 
 /// Prepares a change of document 1 and drops it.
@@ -282,7 +336,7 @@ fn distinct_words(rt: &impl Abort, alloc: Global, count: u32) -> String {
     String::from_utf8(text).expect(rt, "a text")
 }
 
-/// A text of document 7 can be prepared, or can't for this reason.
+/// A text of document 7 can be prepared, by itself and as the first of several, or can't for this reason.
 fn expect_refusal(
     rt: &impl Abort,
     alloc: Global,
@@ -292,6 +346,9 @@ fn expect_refusal(
 ) {
     assert!(rt; is_short(Some(text)));
     let refusal = index.prepare(alloc, DocId(7), Some(text)).err();
+    expect_same(rt, refusal, wanted);
+    let mut words = NewWords::new(alloc).expect(rt, "memory");
+    let refusal = words.add(alloc, index, DocId(7), Some(text)).err();
     expect_same(rt, refusal, wanted);
 }
 

@@ -1,9 +1,8 @@
-use Rattle.std.proofs.Common.{◌≡◌, ◌+◌, ◌≤◌, ◌++◌, length, map, take}
-use Rattle.archive_entries.specs.Batches.{place_change}
+use Rattle.std.proofs.Common.{◌≡◌, ◌+◌, ◌≤◌, ◌++◌, length, take}
 use Rattle.archive_entries.proofs.batching.note_all.Given as goal
 
-abbrev pub invariant-loop-act : goal.invariant-loop-act
-invariant-loop-act l = record {
-  changes : l.directory.changes ≡ l.fn.directory.changes ++ map place_change (take l.act-index l.acts);
-  room : length l.acts ≤ l.directory.room + l.act-index;
+abbrev pub invariant-loop-change : goal.invariant-loop-change
+invariant-loop-change l = record {
+  changes : l.directory.changes ≡ l.fn.directory.changes ++ take l.change-index l.changes;
+  room : length l.changes ≤ l.directory.room + l.change-index;
 }

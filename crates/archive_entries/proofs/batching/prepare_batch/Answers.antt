@@ -65,3 +65,4 @@ returns-clause-prepared c = λ h placed indexed marked end.
     (subst (λ (l : List BatchItem). AreGathered c.args.directory.now.changes c.args.end (length items) (flat_map act_of l) c.loop-item.batch) all so_far.gathered)
     (subst (λ (l : List BatchItem). AreAllowed h (flat_map act_of l) c.loop-item.batch) all was.0)
     (was.1 ∙ ap (items_cause (h ++ singles (flat_map act_of (take c.loop-item.item-index items))) (c.loop-item.item-index + 1)) (drop_all c.loop-item.item-index items c.loop-item-test.false))
+    (record { changes = c.in_ok-changes.changes; words = c.loop-item.batch.ready; body = c.loop-item.batch.body }) (c.in_ok-changes.ensures.items ∙ c.as_slice.ensures) refl refl

@@ -39,9 +39,9 @@ returns-in-Delete-clause-gathered c =
 pub returns-in-Delete-clause-allowed : goal.returns-in-Delete-clause-allowed
 returns-in-Delete-clause-allowed c =
     ok_moved c.delete.result (λ all h count batch of gathered allowed.
-    let made = all h _ c.args.end count batch of gathered allowed in
+    let made = all h c.args.end count batch of gathered allowed in
     (subst (λ (x : BatchItem). AreAllowed h (batch ++ act_of x) c.delete.new.self) (sym c.in-Delete.is) made.0, ap (item_refusal (h ++ singles batch)) c.in-Delete.is ∙ made.1)) c.delete.ensures.allowed
 
 pub returns-in-Delete-clause-refused : goal.returns-in-Delete-clause-refused
 returns-in-Delete-clause-refused c = λ why is h count batch of gathered allowed.
-    ap (item_refusal (h ++ singles batch)) c.in-Delete.is ∙ c.delete.ensures.refused why is h _ c.args.end count batch of gathered allowed
+    ap (item_refusal (h ++ singles batch)) c.in-Delete.is ∙ c.delete.ensures.refused why is h c.args.end count batch of gathered allowed

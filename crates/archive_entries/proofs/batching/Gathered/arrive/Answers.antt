@@ -5,8 +5,8 @@ use Rattle.lists_index.specs.declared.new_words.NewWords.{NewWords}
 use Rattle.lists_versions.specs.declared.change.Change.{Change}
 use Rattle.journal_entries.specs.declared.act.Act.TheVariants as acts
 use Rattle.model_archive.specs.Histories.{change_by, changes, singles}
-use Rattle.archive_entries.specs.declared.batching.NextAct.{NextAct}
-use Rattle.archive_entries.proofs.BatchingLemmas.{allowed_more, arrival_behind, arrival_by, arrival_declined, arrival_place, arrival_text, arrival_wordy, arrival_allowed, gathered_more}
+use Rattle.archive_entries.specs.declared.batching.NextWords.{NextWords}
+use Rattle.archive_entries.proofs.BatchingLemmas.{allowed_more, arrival_behind, arrival_by, arrival_declined, arrival_place, arrival_wordy, arrival_allowed, gathered_more}
 use Rattle.archive_entries.proofs.batching.Gathered.arrive.Goals as goal
 
 pub returns-in-Err-clause-refused : goal.returns-in-Err-clause-refused
@@ -32,10 +32,9 @@ returns-in-Err-Full-clause-refused c = λ why is h count batch of gathered allow
 
 pub returns-clause-gathered : goal.returns-clause-gathered
 returns-clause-gathered c = λ count batch gathered.
-    let next : NextAct = record { change = c.placed-change.result; text = Some c.args.text } in
-    gathered_more c.args.directory.now.changes c.args.end count batch c.args.self.now c.keep.new.self (acts.Arrive c.args.doc c.args.at c.args.text.now) next gathered (search rules)
+    gathered_more c.args.directory.now.changes c.args.end count batch c.args.self.now c.keep.new.self (acts.Arrive c.args.doc c.args.at c.args.text.now) c.placed-change.result gathered (search rules)
     (arrival_place c.args.end count batch c.args.self.now.body.items c.args.doc c.args.at c.args.text.now c.placed-change.result _ gathered.spelled (search rules) c.placed-change.ensures.doc c.placed-change.ensures.at c.placed-change.ensures.held)
-    (arrival_text c.args.doc c.args.at c.args.text.now c.placed-change.result c.placed-change.ensures.doc c.placed-change.ensures.at) (search rules) (search rules) c.in_ok-keep.ensures.counted c.in_ok-keep.ensures.changes c.in_ok-keep.ensures.acts (search rules)
+    (search rules) c.in_ok-keep.ensures.counted c.in_ok-keep.ensures.changes (search rules)
 
 pub returns-clause-allowed : goal.returns-clause-allowed
 returns-clause-allowed c = λ h count batch of gathered allowed.
@@ -43,7 +42,12 @@ returns-clause-allowed c = λ h count batch of gathered allowed.
     let behind = arrival_behind h batch c.args.directory.now.changes c.args.self.now.coming.changes.items _ c.args.doc c.args.at of.placed gathered.placed in
     let same = arrival_by c.args.doc c.args.at c.placed-change.result _ _ cs c.placed-change.ensures.doc c.placed-change.ensures.at c.placed-change.ensures.held in
     let change : Change (List ℕ) = record { doc = c.args.doc; at = c.args.at; held = Some c.args.text.now } in
+    let next : NextWords = record { at = c.args.at; words = c.in-Ok-add.words } in
     let added = c.in-Ok-add.ensures.added (changes h) (map change_by batch) change of.indexed allowed.brings refl in
+    let prepared = c.in-Ok-add.ensures.prepared (changes h) (map change_by batch) of.indexed allowed.brings in
     let may = arrival_allowed h batch c.args.doc c.args.at c.args.text.now cs behind (sym same ∙ c.in-Ok.ensures) added.1 in
-    let W : NewWords → Type 0 = λ w. Brings w (changes h) (map change_by batch ++ change ∷ []) in
-    (allowed_more h batch c.args.self.now c.keep.new.self (acts.Arrive c.args.doc c.args.at c.args.text.now) allowed may (subst W (sym c.in_ok-keep.ensures.others.0) added.0), may)
+    let W : NewWords → Type 0 = λ w. Brings w (changes h) (map change_by batch ++ change ∷ []) in (
+      allowed_more h batch c.args.self.now c.keep.new.self (acts.Arrive c.args.doc c.args.at c.args.text.now) next allowed may
+          (subst W (sym c.in_ok-keep.ensures.others.0) added.0) refl prepared c.in_ok-keep.ensures.ready,
+      may,
+    )

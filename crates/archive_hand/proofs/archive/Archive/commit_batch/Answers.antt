@@ -1,4 +1,4 @@
-use Rattle.std.proofs.Common.{◌≡◌, ◌+◌, ◌++◌, ◌∷◌, [], ℕ, List, All, length, map, is_err, Result, Ok, Err, OnOk, true, false, ap, sym, subst, ◌∙◌, arith, rules}
+use Rattle.std.proofs.Common.{◌≡◌, ◌+◌, ◌++◌, ◌∷◌, [], ℕ, List, All, length, is_err, Result, Ok, Err, OnOk, true, false, ap, sym, subst, ◌∙◌, arith, rules}
 use Rattle.machine_model.specs.declared.area.Area.TheVariants.{Journal, Pages}
 use Rattle.base_types.specs.declared.text_place.TextPlace.{TextPlace}
 use Rattle.pages_area.specs.Live.{IsInside}
@@ -9,8 +9,7 @@ use Rattle.journal_gates.specs.Crash.{Appends}
 use Rattle.journal_gates.proofs.InStepLemmas.{step_at}
 use Rattle.lists_index.specs.Indexes.{Indexes, state_of}
 use Rattle.model_archive.specs.Histories.{History, changes}
-use Rattle.archive_entries.specs.Batches.{place_change, text_change, IsNextBatch}
-use Rattle.archive_entries.specs.declared.batching.NextAct.{NextAct}
+use Rattle.archive_entries.specs.Batches.{IsNextBatch}
 use Rattle.archive_plans.specs.Shelves.{extents_all}
 use Rattle.archive_hand.specs.States.{ArchiveState, StandsFor, IsSound}
 use Rattle.archive_hand.proofs.AddLemmas.{appends_nowhere, end_stays, inside_on, pages_nowhere, stands_batch}
@@ -73,22 +72,21 @@ on_ok_is : {T E : Type 0} (P : Type 0) (r : Result T E) → is_err r ≡ false �
 on_ok_is P (Ok x) none is = is
 on_ok_is P (Err e) none is = absurd cc
 
-taken : (g : Over) (c : goal.After-drop-acts-in-Ok g) (h : History) (batch : List Act) → StandsFor c.args.self.now h → IsNextBatch h batch c.args.prepared.acts.items c.args.prepared.body.items
+taken : (g : Over) (c : goal.After-drop-changes-in-Ok g) (h : History) (batch : List Act) → StandsFor c.args.self.now h → IsNextBatch h batch c.args.prepared
     → Indexes (state_of c.take_in_all.new.index) (changes (h ++ Batch batch ∷ []))
 taken g c h batch now next =
     let stands = subst (λ (a : ArchiveState). StandsFor a h) (sym c.self.view_is) now in
-    on_ok_is _ c.take_in_all.result (sym c.is_err.ensures.value ∙ c.if-is_err.false) c.take_in_all.ensures.taken h batch stands.loadable next.legal.allowed
-    (ap (λ (acts : List NextAct). map text_change acts) c.deref-2.ensures.value ∙ next.texts) stands.index_is
+    on_ok_is _ c.take_in_all.result (sym c.is_err.ensures.value ∙ c.if-is_err.false) c.take_in_all.ensures.taken h batch stands.loadable next.legal.allowed next.ready stands.index_is
 
 -- an archive with the batch
-made : (g : Over) (c : goal.After-drop-acts-in-Ok g) (h : History) (batch : List Act) → StandsFor c.args.self.now h → IsNextBatch h batch c.args.prepared.acts.items c.args.prepared.body.items
+made : (g : Over) (c : goal.After-drop-changes-in-Ok g) (h : History) (batch : List Act) → StandsFor c.args.self.now h → IsNextBatch h batch c.args.prepared
     → StandsFor (record { end = c.append.new.self.end; live = true; length = c.self.inside.entries + 1; changes = c.note_all.new.directory.changes; index = state_of c.take_in_all.new.index; shelf = c.self.inside.shelf; marked = c.self.inside.marked }) (h ++ Batch batch ∷ [])
 made g c h batch now next =
     let stands = subst (λ (a : ArchiveState). StandsFor a h) (sym c.self.view_is) now in
-    stands_batch _ h batch c.args.prepared.acts.items c.args.prepared.body.items c.append.new.self.end c.note_all.new.directory.changes (state_of c.take_in_all.new.index) stands next
+    stands_batch _ h batch c.args.prepared c.append.new.self.end c.note_all.new.directory.changes (state_of c.take_in_all.new.index) stands next
     (omega (arith, c.in-Ok.ensures.end, ap length (c.in_ok-frame.ensures.body ∙ c.deref.ensures.value)))
-    (c.note_all.ensures ∙ ap (λ (l : List (Change TextPlace)). l ++ map place_change c.deref-in-Ok.result.now) c.reserve_all.ensures.same
-    ∙ ap (λ (acts : List NextAct). c.self.inside.directory.changes ++ map place_change acts) c.deref-in-Ok.ensures.value)
+    (c.note_all.ensures ∙ ap (λ (l : List (Change TextPlace)). l ++ c.deref-in-Ok.result.now) c.reserve_all.ensures.same
+    ∙ ap (λ (l : List (Change TextPlace)). c.self.inside.directory.changes ++ l) c.deref-in-Ok.ensures.value)
     (taken g c h batch now next)
 
 pub invariant_of-self-in-Ok : goal.invariant_of-self-in-Ok

@@ -1,12 +1,9 @@
-use Rattle.std.proofs.Common.{◌∙◌, ◌<◌, List, ap, subst, length, get_or}
-use Rattle.base_types.specs.declared.text_place.TextPlace.{TextPlace}
-use Rattle.lists_versions.specs.declared.change.Change.{Change}
-use Rattle.lists_versions.proofs.Comings.{latest-next}
+use Rattle.std.proofs.Common.{◌∙◌, sym}
+use Rattle.lists_versions.proofs.Comings.{latest-back, latest-front}
 use Rattle.lists_versions.proofs.coming.Coming.latest.Goals as goal
 
-pub loop-change-preserved : goal.loop-change-preserved
-loop-change-preserved c =
-    let at_hand = c.deref-change-items.ensures.value in
-    c.newer-found.ensures ∙ latest-next c.args.doc c.args.directory.now.changes c.args.self.now.changes.items c.loop-change.change-index c.change-item.result c.loop-change.found
-    (subst (λ (xs : List (Change TextPlace)). c.loop-change.change-index < length xs) at_hand c.loop-change-test.true)
-    (c.change-item.is ∙ ap (λ (xs : List (Change TextPlace)). get_or xs c.loop-change.change-index c.change-item.result) at_hand) c.loop-change.invariant
+pub returns-in-Some : goal.returns-in-Some
+returns-in-Some c = sym (latest-back c.args.doc c.args.directory.now.changes c.args.self.now.changes.items c.in-Some.change (sym (c.requires.newest_are c.args.doc) ∙ sym c.in-Some.ensures))
+
+pub returns-in-None : goal.returns-in-None
+returns-in-None c = c.latest.ensures ∙ sym (latest-front c.args.doc c.args.directory.now.changes c.args.self.now.changes.items (sym (c.requires.newest_are c.args.doc) ∙ sym c.in-None.ensures))
