@@ -1,12 +1,11 @@
 -- What is told approximately, and what is made of it.
-use Rattle.std.proofs.Common.{◌≡◌, ℕ, zero, suc, ◌+◌, ◌<◌, ◌≤◌, ◌^◌, Bool, true, false, cond, bytes_eq, List, [], ◌∷◌, ◌++◌, length, get_or, All, Contains, Option, Some, None, Result, Ok, Err, IfOk, IsSome, inl, inr, refl, ap, sym, subst, ◌∙◌, arith}
+use Rattle.std.proofs.Common.{◌≡◌, ℕ, zero, suc, ◌+◌, ◌<◌, ◌≤◌, ◌^◌, Bool, true, false, cond, bytes_eq, List, [], ◌∷◌, ◌++◌, length, get_or, All, Contains, Option, Some, None, inl, inr, sym, subst, ◌∙◌, arith}
 use Rattle.std.specs.List.{AllZip}
 use Rattle.std.specs.List.Sorted.{IsPermutation}
 use Rattle.std.proofs.lemmas.Bool.{cases_lt}
 use Rattle.std.proofs.lemmas.List.Elements.{AllZip-push}
 use Rattle.std.proofs.lemmas.List.Sorted.{Contains-permutation, IsPermutation-sym}
 use Rattle.std.proofs.lemmas.List.Sums.{sum_by-append}
-use Rattle.base_types.specs.declared.ids.DocId.{DocId}
 use Rattle.base_types.specs.declared.posting.Posting.{Posting}
 use Rattle.base_types.specs.declared.tolerance.Tolerance.{Tolerance}
 use Rattle.text_words.specs.Terms.{one_term}
@@ -15,7 +14,7 @@ use Rattle.lists_postings.proofs.Frequencies.{is_row, found, frequency-here, fre
 use Rattle.lists_approx.specs.Approximations.{IsNear, IsLongestFirst}
 use Rattle.lists_approx.proofs.Alike.{longest_first_alike}
 use Rattle.lists_approx.proofs.Near.{near_none, near_self}
-use Rattle.query_eval.specs.Found.{HasHit, told, read_of}
+use Rattle.query_eval.specs.Found.{told, read_of}
 use Rattle.query_eval.specs.declared.part.Part.{Part}
 use Rattle.model_archive.specs.Answers.{IsWordList}
 use Rattle.model_archive.specs.Chosen.{AreChosen}

@@ -1,5 +1,5 @@
 //! What is told approximately: the list of a word, and what a query finds by such lists.
-ghost use Rattle.std.specs.Prelude.{◌≡◌, ◌+◌, ◌^◌, ℕ, List, length, IfOk, IsErrOf, IsTrue};
+ghost use Rattle.std.specs.Prelude.{◌≡◌, ◌^◌, ℕ, List, length, IfOk, IsErrOf, IsTrue};
 ghost use Rattle.std.specs.List.{AllZip};
 ghost use Rattle.std.specs.List.Sorted.{IsPermutation};
 ghost use Rattle.base_types.specs.declared.posting.Posting.{Posting as PlainPosting};
