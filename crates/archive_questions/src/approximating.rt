@@ -78,11 +78,11 @@ pub fn approx(
     ensures by_reads { (d : DiskState) (s : Store) → AreInStepBy d archive.now s
         → TakesBy s (items.Command (commands.Approx word.now tolerance)) (approximated result) d d archive.now }
 {
-    approximation(alloc, archive, word, tolerance)
+    approx_phrase(alloc, archive, word, tolerance)
 }
 
 /// The approximation of a phrase's word.
-fn approximation(
+fn approx_phrase(
     alloc: Global,
     archive: &Archive,
     word: &Phrase,

@@ -123,7 +123,7 @@ impl ReplyPage {
         for posting in short {
             self.put_approx(posting)?;
         }
-        self.put_full(short.len(), full)
+        self.put_short_end(short.len(), full)
     }
 
     /// Writes the rows that a query found by approximations, and that so many postings were read for them,
@@ -250,7 +250,7 @@ impl ReplyPage {
 
     /// Adds how many postings there are, and how many the whole list has. It takes memory where there is
     /// no room. Constant cost but for that.
-    fn put_full(&mut self, postings: usize, full: u64) -> Result<(), AllocError>
+    fn put_short_end(&mut self, postings: usize, full: u64) -> Result<(), AllocError>
         ensures { OnOk result (self.new.bytes ≡ self.old.bytes ++ full_text postings full) }
     {
         self.make_room(REPLY_ROOM)?;

@@ -4,7 +4,7 @@ use Rattle.model_archive.specs.declared.refusal.Refusal.TheVariants as refusals
 use Rattle.model_archive.specs.Steps.{Approximated, Refused}
 use Rattle.archive_hand.proofs.PhraseLemmas.{one_why, not_both}
 use Rattle.archive_questions.proofs.RoughLemmas.{term_tells}
-use Rattle.archive_questions.proofs.approximating.approximation.Goals as goal
+use Rattle.archive_questions.proofs.approximating.approx_phrase.Goals as goal
 
 pub returns-then-not-knows-clause-refused : goal.returns-then-not-knows-clause-refused
 returns-then-not-knows-clause-refused c = λ h stands why e.
