@@ -1,4 +1,4 @@
-use Rattle.std.proofs.Common.{List, refl, sym, subst}
+use Rattle.std.proofs.Common.{List, rules, sym, subst}
 use Rattle.base_types.specs.declared.posting.Posting.{Posting}
 use Rattle.lists_approx.specs.Approximations.{IsLongestFirst}
 use Rattle.lists_index.specs.Indexes.{IndexState, Indexes}
@@ -12,4 +12,4 @@ returns c = λ h stands.
     let list = c.in_ok-whole.whole.items in
     let indexed = subst (λ (i : IndexState). Indexes i (changes h)) (sym c.index.ensures) stands.index_is in
     let whole = word_list h word list (c.in_ok-whole.ensures.list (changes h) indexed) in
-    (list, whole, subst (λ (l : List Posting). IsLongestFirst c.args.tolerance l c.in_ok-short.short.items) c.deref.ensures.value c.in_ok-short.ensures, refl)
+    (list, whole, subst (λ (l : List Posting). IsLongestFirst c.args.tolerance l c.in_ok-short.short.items) c.deref.ensures.value c.in_ok-short.ensures, search rules)

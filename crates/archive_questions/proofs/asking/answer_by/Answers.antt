@@ -1,4 +1,4 @@
-use Rattle.std.proofs.Common.{arith}
+use Rattle.std.proofs.Common.{◌+◌, arith}
 use Rattle.model_archive.proofs.ChosenLemmas.{unplanned_alive}
 use Rattle.archive_questions.proofs.asking.answer_by.Goals as goal
 
