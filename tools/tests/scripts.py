@@ -41,6 +41,8 @@ SPELLINGS = [
 SEPARATORS = [" ", " ", " ", ", ", "-", "\n", "\r\n", "\t", "_", "'", "\0", " (", ") ", "^", "\u2014", "\u20ac"]
 FACTORS = ["1/1", "1/1", "3/2", "3/2", "2/1", "5/4", "4/1", "9/7", "6/4", "100/1", "003/02", "4294967295/1"]
 NO_FACTORS = ["1/2", "0/0", "1/0", "3", "/", "2/", "/1", "a/b", "4294967296/1", "3/1/1", "-3/2", "3/ 2"]
+TOLERANCES = ["0/1", "0/7", "1/10", "1/4", "1/4", "1/3", "1/2", "1/2", "3/4", "9/10", "001/04", "4294967294/4294967295"]
+NO_TOLERANCES = ["1/1", "2/1", "0/0", "1/0", "3", "/", "1/", "/4", "a/b", "1/4294967296", "1/3/4", "-1/2", "1/ 2"]
 NO_TIMES = ["", "x", "-1", "1.5", "1099511627776", "1969-12-31", "2007-02-29", "2007-7-01", "2007-13-01", "07-07-07", "2007-07-20x"]
 DATES = ["1970-01-01", "1970-01-02", "1970-02-28", "2000-02-29", "9999-12-31"]
 NO_TEXTS = [b"\xff", b"red \xc3", b"\xc3\x28", b"\xed\xa0\x80", b"red\xf5\x80\x80\x80", b"\xe2\x82", b"\xc0\x80", b"\x80"]
@@ -49,7 +51,8 @@ NO_COMMANDS = [
     b"find", b"find 10", b"find 10 \xc3\x28", b"between 5 5 red", b"between 7 3 red", b"between 1 2", b"plan", b"plan red",
     b"plan red guarantee", b"plan red space 2/1", b"plan red space 2/1 since", b"plan red space 2/1 uniform 3", b"plan \xff guarantee 2/1",
     b"propose red", b"propose red space 2/1 uniform", b"certificate", b"certificate red blue", b"verify now", b"\r", b"\0", b"\xff\xfe",
-    b"begin red guarantee 2/1", b"format", b"format 02", b"top 0 10 red", b"top 1000001 10 red", b"top 3 10", b"top 3.0 10 red", b"best 3 10 red", b"approx red 1/2", b"rough 1/2 10 red",
+    b"begin red guarantee 2/1", b"format", b"format 02", b"top 0 10 red", b"top 1000001 10 red", b"top 3 10", b"top 3.0 10 red", b"best 3 10 red", b"approx red", b"approx red blue 1/2",
+    b"approx red 2/2", b"rough 1/2 10", b"rough 2/1 10 red", b"rough 10 red",
     b"share 2/1 red blue", b"batch", b"batch 0", b"batch 1001", b"batch x", b"batch 1 2", b"batch -1", b"q" * 4_096,
 ]  # fmt: skip
 BROKEN = [b"arrive\n", b"arrive 1 2\n", b"arrive 1 x 3\nred\n", b"arrive 1 2 3 4\n", b"  arrive 1 1969-01-01 0\n\n", b"r" * 4_097]
@@ -102,6 +105,9 @@ class Writer:
             return b"%d" % self.chance.choice([0, (1 << 40) - 1])
         return b"%d" % min(self.chance.randint(max(0, self.clock - 60), self.clock + 3), (1 << 40) - 1)
 
+    def tolerance(self) -> bytes:
+        return self.chance.choice(NO_TOLERANCES if self.is_one_in(20) else TOLERANCES).encode()
+
     def factor(self) -> bytes:
         return self.chance.choice(NO_FACTORS if self.is_one_in(20) else FACTORS).encode()
 
@@ -153,6 +159,8 @@ class Writer:
             return self.batch()
         if kind < 56:
             asked = self.asked_time(), self.query()
+            if self.is_one_in(6):
+                return b"rough %b %b %b" % (self.tolerance(), *asked)
             return b"top %b %b %b" % (self.chance.choice([b"1", b"2", b"3", b"007", b"1000000"]), *asked) if self.is_one_in(4) else b"find %b %b" % asked
         if kind < 64:
             return b"between %b %b %b" % (*sorted([self.asked_time(), self.asked_time()], key=_in_order), self.query())
@@ -165,6 +173,8 @@ class Writer:
             return b"plan %b space %b uniform" % (word.encode(), self.factor())
         if kind < 84:
             return b"plan %b space %b since %b" % (word.encode(), self.factor(), self.asked_time())
+        if kind < 85:
+            return b"approx %b %b" % (word.encode(), self.tolerance())
         if kind < 88:
             return b"propose %b guarantee %b" % (word.encode(), self.factor())
         if kind < 91:

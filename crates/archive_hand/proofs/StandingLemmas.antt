@@ -1,11 +1,12 @@
 -- Where the pages hold what the history's plans need, a step by what reads give is the abstract archive's.
-use Rattle.std.proofs.Common.{◌≡◌, ◌⊎◌, ℕ, ◌+◌, List, [], ◌∷◌, ◌++◌, Option, Some, None, Result, Ok, Err, inl, inr, refl, ap, sym, subst}
+use Rattle.std.proofs.Common.{◌≡◌, ◌⊎◌, ℕ, ◌+◌, ◌^◌, List, [], ◌∷◌, ◌++◌, Option, Some, None, Result, Ok, Err, inl, inr, refl, ap, sym, subst}
 use Rattle.std.specs.List.{flat_map}
 use Rattle.machine_model.specs.Areas.{Bytes}
 use Rattle.machine_model.specs.States.{DiskState}
 use Rattle.journal_gates.specs.Spelled.{Spells}
 use Rattle.base_types.specs.declared.time.Span.{Span}
 use Rattle.base_types.specs.declared.time.Time.{Time}
+use Rattle.base_types.specs.declared.tolerance.Tolerance.{Tolerance}
 use Rattle.base_types.specs.declared.fraction.Fraction.{Fraction}
 use Rattle.base_types.specs.declared.posting.Posting.{Posting}
 use Rattle.pages_area.specs.Taken.{AreApart}
@@ -35,6 +36,7 @@ use Rattle.model_archive.specs.Stands.{EachStands, Stands, bodies_of}
 use Rattle.model_archive.specs.Steps.{Reply, Cause, Adds, AddsBatch, AddsPlan, CarriesOut, Declines, Step, StoresPlan, act_of, arrival_refusal, batch_cause, deletion_refusal, mark_refusal, full_journal, in_blocks, spelled_key}
 use Rattle.model_archive.specs.Worlds.{world_of}
 use Rattle.model_archive.proofs.ChosenLemmas.{held_undamaged, made_at, made_over}
+use Rattle.model_archive.proofs.RoughMade.{made_rough}
 use Rattle.model_archive.proofs.HistoryLemmas.{loadable-middle}
 use Rattle.model_archive.proofs.HoldLemmas.{held_alike, held_push, held_with}
 use Rattle.model_archive.proofs.OutcomeLemmas.{step_loads}
@@ -194,6 +196,15 @@ topped s count at expr reply next standing (Ok query, read, (rows, number, made,
 topped s count at expr reply next standing (Err place, read, is, asks) =
     let same = asks_same s next at.seconds (at.seconds + 1) (Err place) asks in ((same.0, (Err place, read, is)), same_next s next same.0 same.1 standing)
 
+neared : (s : Store) (tolerance : Tolerance) (at : Time) (expr : List ℕ) (reply : Reply) (next : Store) → IsStanding s → StoreStep s (items.Command (commands.Rough tolerance at expr)) reply next
+    → Step (world_of s.history) (items.Command (commands.Rough tolerance at expr)) reply (world_of next.history) × IsStanding next
+neared s tolerance at expr reply next standing (Ok query, read, (rows, count, made, is), asks) =
+    let same = asks_same s next 0 (2 ^ 40) (Ok query) asks in
+    let stands = made_rough s.history s.pages tolerance at.seconds query rows count standing.loadable standing.held made in
+    ((same.0, (Ok query, read, (rows, count, stands.0, stands.1, is))), same_next s next same.0 same.1 standing)
+neared s tolerance at expr reply next standing (Err place, read, is, asks) =
+    let same = asks_same s next 0 (2 ^ 40) (Err place) asks in ((same.0, (Err place, read, is)), same_next s next same.0 same.1 standing)
+
 spanned : (s : Store) (span : Span) (expr : List ℕ) (reply : Reply) (next : Store) → IsStanding s → StoreStep s (items.Command (commands.Between span expr)) reply next
     → Step (world_of s.history) (items.Command (commands.Between span expr)) reply (world_of next.history) × IsStanding next
 spanned s span expr reply next standing (Ok query, read, (rows, count, made, is), asks) =
@@ -211,6 +222,9 @@ step_standing s (items.Command (commands.Batch batch)) reply next standing range
 step_standing s (items.Command (commands.Plan word kind fraction)) reply next standing range (step, stocks) = changed s next (commands.Plan word kind fraction) reply standing range step step stocks
 step_standing s (items.Command (commands.Find at expr)) reply next standing range step = found s at expr reply next standing step
 step_standing s (items.Command (commands.Top count at expr)) reply next standing range step = topped s count at expr reply next standing step
+step_standing s (items.Command (commands.Rough tolerance at expr)) reply next standing range step = neared s tolerance at expr reply next standing step
+step_standing s (items.Command (commands.Approx word tolerance)) reply next standing range (same, is) =
+    let history = ap (λ (x : Store). x.history) same in ((history, is), same_next s next history (ap (λ (x : Store). x.pages) same) standing)
 step_standing s (items.Command (commands.Between span expr)) reply next standing range step = spanned s span expr reply next standing step
 step_standing s (items.Command (commands.Show doc at)) reply next standing range (reads, is) =
     let history = ap (λ (x : Store). x.history) reads in ((history, is), same_next s next history (ap (λ (x : Store). x.pages) reads) standing)
@@ -232,6 +246,8 @@ spoiled_never s (items.Command (commands.Find at expr)) damage standing spoils =
     held_undamaged s.history s.pages spoils.first.word at.seconds (at.seconds + 1) damage standing.loadable standing.held spoils.first.damaged
 spoiled_never s (items.Command (commands.Top count at expr)) damage standing spoils =
     held_undamaged s.history s.pages spoils.first.word at.seconds (at.seconds + 1) damage standing.loadable standing.held spoils.first.damaged
+spoiled_never s (items.Command (commands.Rough tolerance at expr)) damage standing spoils =
+    held_undamaged s.history s.pages spoils.first.word 0 (2 ^ 40) damage standing.loadable standing.held spoils.first.damaged
 spoiled_never s (items.Command (commands.Between span expr)) damage standing spoils =
     held_undamaged s.history s.pages spoils.first.word span.from span.to damage standing.loadable standing.held spoils.first.damaged
 spoiled_never s other damage standing spoils = spoils

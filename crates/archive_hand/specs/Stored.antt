@@ -1,12 +1,13 @@
 -- An archive by what reads give: what an item of the input does to it, and what is replied. Nothing is asked of what lies in Pages: where it holds what
 -- the history's plans need, this is the abstract archive's step over the history.
-use Rattle.std.specs.Prelude.{◌≡◌, ℕ, ◌+◌, List, [], ◌∷◌, ◌++◌, length, take, All, Result, Ok, Err}
+use Rattle.std.specs.Prelude.{◌≡◌, ℕ, ◌+◌, ◌^◌, List, [], ◌∷◌, ◌++◌, length, take, All, Result, Ok, Err}
 use Rattle.machine_model.specs.Areas.{Bytes}
 use Rattle.machine_model.specs.Images.{MayLeave}
 use Rattle.machine_model.specs.States.{DiskState}
 use Rattle.base_types.specs.declared.extent.Extent.{Extent}
 use Rattle.base_types.specs.declared.time.Span.{Span}
 use Rattle.base_types.specs.declared.time.Time.{Time}
+use Rattle.base_types.specs.declared.tolerance.Tolerance.{Tolerance}
 use Rattle.journal_gates.specs.Spelled.{Spells}
 use Rattle.pages_area.specs.Caches.{Kept, after_asking_all, missed_by_all}
 use Rattle.pages_area.specs.Live.{IsInside}
@@ -31,8 +32,9 @@ use Rattle.model_archive.specs.Chosen.{IsMadeAt, IsMadeOver, SpoilsAnswer, piece
 use Rattle.model_archive.specs.Histories.{History, text_at}
 use Rattle.model_archive.specs.Holding.{HoldsPlan}
 use Rattle.model_archive.specs.Plans.{live_extents}
+use Rattle.model_archive.specs.Rough.{IsMadeRough}
 use Rattle.model_archive.specs.Stands.{bodies_of}
-use Rattle.model_archive.specs.Steps.{Reply, Accepted, Found, Planned, Refused, Spanned, Verified, Version, CarriesOut, Certifies, IsRepliedBy, Proposes}
+use Rattle.model_archive.specs.Steps.{Reply, Accepted, Found, Planned, Neared, Refused, Spanned, Verified, Version, Approximates, CarriesOut, Certifies, IsRepliedBy, Proposes}
 use Rattle.archive_check.specs.Checked.{IsChecked}
 
 -- an archive by what reads give: its history, the bytes of Pages, the pieces of pages that it keeps, and how many bytes of Pages were read
@@ -75,6 +77,11 @@ MakesAt store at query reply = (rows : List Row) × (read : ℕ) × IsMadeAt sto
 abbrev pub MakesTop : Store → TopCount → Time → Query → Reply → Type 0
 MakesTop store count at query reply = (rows : List Row) × (read : ℕ) × IsMadeAt store.history store.pages at.seconds query rows read
     × (reply ≡ Found (take count.number rows) read)
+
+-- what is found approximately by a query at a time, by the lists that are chosen over all times
+abbrev pub MakesRough : Store → Tolerance → Time → Query → Reply → Type 0
+MakesRough store tolerance at query reply = (rows : List Row) × (read : ℕ)
+    × IsMadeRough store.history store.pages tolerance at.seconds query rows read × (reply ≡ Neared rows read)
 
 -- what is found over a window, by the lists that are chosen
 abbrev pub MakesOver : Store → Span → Query → Reply → Type 0
@@ -121,6 +128,8 @@ StoreStep old (items.Command (commands.Plan word kind fraction)) reply new = Cha
 StoreStep old (items.Command (commands.Find at expr)) reply new = Answers (MakesAt old at) old at.seconds (at.seconds + 1) expr reply new
 StoreStep old (items.Command (commands.Top count at expr)) reply new = Answers (MakesTop old count at) old at.seconds
     (at.seconds + 1) expr reply new
+StoreStep old (items.Command (commands.Rough tolerance at expr)) reply new = Answers (MakesRough old tolerance at) old 0 (2 ^ 40) expr reply new
+StoreStep old (items.Command (commands.Approx word tolerance)) reply new = (new ≡ old) × Approximates old.history word tolerance reply
 StoreStep old (items.Command (commands.Between span expr)) reply new = Answers (MakesOver old span) old span.from span.to expr reply new
 StoreStep old (items.Command (commands.Show doc at)) reply new = ReadsOn old new × (reply ≡ Version (text_at old.history doc at.seconds))
 StoreStep old (items.Command (commands.Propose word fraction)) reply new = (new ≡ old) × Proposes old.history word fraction reply
@@ -132,10 +141,12 @@ StoreStep old other reply new = (new ≡ old) × (reply ≡ Refused refusals.Lin
 abbrev pub IsSameStore : Store → Store → Type 0
 IsSameStore old new = (new.history ≡ old.history) × (new.pages ≡ old.pages)
 
--- The item asks what is found, at a time, which is a window up to the next one, or over a window; and this is so of the window's bounds and the text.
+-- The item asks what is found, at a time, which is a window up to the next one, or over a window, or approximately, for which all times are read; and
+-- this is so of the window's bounds and the text.
 abbrev pub AsksOver : (ℕ → ℕ → List ℕ → Type 0) → Item → Type 0
 AsksOver P (items.Command (commands.Find at expr)) = P at.seconds (at.seconds + 1) expr
 AsksOver P (items.Command (commands.Top count at expr)) = P at.seconds (at.seconds + 1) expr
+AsksOver P (items.Command (commands.Rough tolerance at expr)) = P 0 (2 ^ 40) expr
 AsksOver P (items.Command (commands.Between span expr)) = P span.from span.to expr
 AsksOver P other = ⊥
 

@@ -1,5 +1,5 @@
 -- The answer at a time over the documents that the archive in hand has alive is one over those of the history.
-use Rattle.std.proofs.Common.{◌≡◌, ◌↔◌, ℕ, ◌+◌, ◌<◌, ◌^◌, Bool, true, false, List, All, Contains, Option, Some, None, IsSome, is_some, refl, ap, sym, subst, ◌∙◌, arith}
+use Rattle.std.proofs.Common.{◌≡◌, ◌↔◌, ℕ, Bool, true, false, List, All, Contains, Option, Some, None, IsSome, is_some, refl, ap, sym, subst, ◌∙◌}
 use Rattle.std.proofs.lemmas.List.Elements.{All-weaker}
 use Rattle.base_types.specs.declared.ids.DocId.{DocId}
 use Rattle.base_types.specs.declared.text_place.TextPlace.{TextPlace}
@@ -14,11 +14,10 @@ use Rattle.query_eval.specs.Found.{told, HasHit}
 use Rattle.query_eval.specs.declared.answer.Row.{Row}
 use Rattle.query_eval.specs.declared.part.Part.{Part}
 use Rattle.query_eval.proofs.GivenLemmas.{only_hits_matter, same_alive}
-use Rattle.model_archive.specs.Chosen.{AreChosen}
 use Rattle.model_archive.specs.Histories.{History, changes, text_at}
 use Rattle.model_archive.specs.Plans.{is_another, plan_of}
-use Rattle.model_archive.proofs.ChosenLemmas.{unplanned_alive}
 use Rattle.archive_hand.specs.States.{ArchiveState, StandsFor}
+use Rattle.archive_questions.specs.Answering.{HitsAreAlive}
 use Rattle.archive_questions.proofs.ChosenLemmas.{unplanned_is}
 use Rattle.archive_entries.specs.Texts.{nothing}
 use Rattle.archive_entries.proofs.PlaceLemmas.{bare_changes}
@@ -48,13 +47,14 @@ none_planned a h words stands others =
     All-weaker (λ word. All (λ s. is_another word s ≡ true) a.shelf.plans) (λ word. plan_of h word ≡ None) (λ word each. unplanned_is a h word stands each) words others
 
 -- where no word has a plan, all that are told of are alive
-pub by_unplanned : (a : ArchiveState) (h : History) (pages : List ℕ) (t : ℕ) (query : Query) (parts : List Part) (rows : List Row) → t < 2 ^ 40 → StandsFor a h
-    → All (λ word. All (λ s. is_another word s ≡ true) a.shelf.plans) (words_of query) → AreChosen h pages t (t + 1) (words_of query) parts → matches query (λ _. 0) ≡ false
+pub by_unplanned : (a : ArchiveState) (h : History) (t : ℕ) (query : Query) (parts : List Part) (rows : List Row) → StandsFor a h
+    → All (λ word. All (λ s. is_another word s ≡ true) a.shelf.plans) (words_of query) → (All (λ word. plan_of h word ≡ None) (words_of query) → HitsAreAlive h (words_of query) parts t)
+    → matches query (λ _. 0) ≡ false
     → IsAnswer (HasHit (words_of query) parts t) (λ doc. told (words_of query) parts t doc.0) query rows
     → IsAnswer (λ doc. IsSome (text_at h doc t)) (λ doc. told (words_of query) parts t doc.0) query rows
-by_unplanned a h pages t query parts rows now stands others chosen bare answer =
+by_unplanned a h t query parts rows stands others alive bare answer =
     only_hits_matter (λ doc. IsSome (text_at h doc t)) (HasHit (words_of query) parts t) (λ doc. told (words_of query) parts t doc.0) query rows bare
-    (λ doc hit. unplanned_alive h pages t (t + 1) t (words_of query) parts doc (omega (arith, now)) (none_planned a h (words_of query) stands others) chosen (omega arith) (omega arith) hit)
+    (alive (none_planned a h (words_of query) stands others))
     (λ doc k is within some. record { place = k; within = within; some = some })
     answer
 

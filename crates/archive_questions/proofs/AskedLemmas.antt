@@ -1,11 +1,12 @@
 -- How a query ends: at a text that is none, at sublists that were not had, or with an answer; and errors that are handed on.
-use Rattle.std.proofs.Common.{◌≡◌, ℕ, ◌+◌, List, Result, Ok, Err, IfOk, OnOk, IsErrAnd, refl, ap, subst, sym, ◌∙◌}
+use Rattle.std.proofs.Common.{◌≡◌, ℕ, ◌+◌, ◌^◌, List, Result, Ok, Err, IfOk, OnOk, IsErrAnd, refl, ap, subst, sym, ◌∙◌}
 use Rattle.std.proofs.lemmas.Result.{IfOk-weaker}
 use Rattle.machine_model.specs.Areas.{Both}
 use Rattle.pages_area.specs.Caches.{Kept, after_asking_all, missed_by_all}
 use Rattle.machine_model.specs.States.{DiskState}
 use Rattle.base_types.specs.declared.time.Time.{Time}
 use Rattle.base_types.specs.declared.time.Span.{Span}
+use Rattle.base_types.specs.declared.tolerance.Tolerance.{Tolerance}
 use Rattle.base_commands.specs.declared.command.Command.TheVariants as commands
 use Rattle.base_commands.specs.declared.command.Item.{Item}
 use Rattle.base_commands.specs.declared.command.Item.TheVariants as items
@@ -26,7 +27,8 @@ use Rattle.model_archive.specs.Chosen.{IsMadeAt, IsMadeOver, SpoilsAnswer, piece
 use Rattle.model_archive.specs.declared.refusal.Refusal.{Refusal}
 use Rattle.model_archive.specs.declared.refusal.Refusal.TheVariants as refusals
 use Rattle.model_archive.specs.Histories.{History}
-use Rattle.model_archive.specs.Steps.{Reply, Refused, Found, Spanned}
+use Rattle.model_archive.specs.Rough.{IsMadeRough}
+use Rattle.model_archive.specs.Steps.{Reply, Refused, Found, Spanned, Neared}
 use Rattle.archive_entries.specs.declared.error.Declined.{Declined}
 use Rattle.archive_entries.specs.declared.error.Declined.TheVariants as declines
 use Rattle.archive_questions.specs.After.{AfterFetching, AfterQuestion, Fetches}
@@ -34,9 +36,10 @@ use Rattle.archive_hand.specs.Asking.{HasAsked}
 use Rattle.archive_questions.specs.Answering.{IsAnswerTo, IsNoQuery, IsWantedAt}
 use Rattle.archive_questions.specs.Causes.{ask_error_of_query, asked_of}
 use Rattle.archive_hand.specs.States.{ArchiveState, AreInStepBy, with_reads}
-use Rattle.archive_hand.specs.Stored.{Store, Answers, MakesAt, MakesOver, MakesTop, Spoils, StoreStep, asking}
+use Rattle.archive_hand.specs.Stored.{Store, Answers, MakesAt, MakesOver, MakesRough, MakesTop, Spoils, StoreStep, asking}
 use Rattle.archive_hand.specs.Takes.{TakesBy}
-use Rattle.archive_questions.specs.Endings.{answered, found, spanned}
+use Rattle.archive_questions.specs.Endings.{answered, found, neared, spanned}
+use Rattle.archive_questions.specs.declared.approximating.RoughAnswer.{RoughAnswer}
 use Rattle.archive_questions.specs.declared.error.AskError.{AskError}
 use Rattle.archive_questions.specs.declared.error.AskError.TheVariants as asks
 use Rattle.archive_questions.proofs.TakeLemmas.{IsAnsweredBy, no_reads, question_by}
@@ -175,6 +178,14 @@ top_by s count at phrase r d e x y told in_step after =
     query_by (λ pages. MakesTop (record s { pages = pages }) count at) s (items.Command (commands.Top count at phrase)) phrase at.seconds (at.seconds + 1)
     (λ h query answer. IsWantedAt (First count.number) h d.holds.pages at.seconds query answer.rows.items answer.read) (λ (answer : Answer). Found answer.rows.items answer.read) r d e x y told (λ one next is. is) (λ damage is. is)
     (λ query answer made. (made.0, answer.read, made.1, ap (λ (rows : List Row). Found rows answer.read) made.2)) in_step after
+
+pub rough_by : {tells : Type 0} (s : Store) (tolerance : Tolerance) (at : Time) (phrase : List ℕ) (r : Result RoughAnswer AskError) (d e : DiskState) (x y : ArchiveState) → tells → AreInStepBy d x s
+    → AfterQuestion tells phrase 0 (2 ^ 40) (λ h query answer. IsMadeRough h d.holds.pages tolerance at.seconds query answer.rows.items answer.read) r d e x y
+    → TakesBy s (items.Command (commands.Rough tolerance at phrase)) (neared r) d e y
+rough_by s tolerance at phrase r d e x y told in_step after =
+    query_by (λ pages. MakesRough (record s { pages = pages }) tolerance at) s (items.Command (commands.Rough tolerance at phrase)) phrase 0 (2 ^ 40)
+    (λ h query answer. IsMadeRough h d.holds.pages tolerance at.seconds query answer.rows.items answer.read) (λ (answer : RoughAnswer). Neared answer.rows.items answer.read) r d e x y told (λ one next is. is) (λ damage is. is)
+    (λ query answer made. (answer.rows.items, answer.read, made, refl)) in_step after
 
 pub between_by : {tells : Type 0} (s : Store) (span : Span) (phrase : List ℕ) (r : Result SpanAnswer AskError) (d e : DiskState) (x y : ArchiveState) → tells → AreInStepBy d x s
     → AfterQuestion tells phrase span.from span.to (λ h query answer. IsMadeOver h d.holds.pages span.from span.to query answer.rows.items answer.read) r d e x y

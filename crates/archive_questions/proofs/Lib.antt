@@ -2,6 +2,7 @@ mod TextLemmas
 mod AskedLemmas
 mod TakeLemmas
 mod AnswerLemmas
+mod RoughLemmas
 mod SpanLemmas
 mod PlanLemmas
 mod LiveLemmas

@@ -21,7 +21,7 @@ use Rattle.archive_check.specs.declared.error.VerifyError.TheVariants as checks
 use Rattle.archive_hand.specs.States.{ArchiveState, AreInStepBy, CacheStands, IsSameButCache, with_reads}
 use Rattle.archive_hand.specs.Stored.{Store, ReadsOn, Spoils, StoreStep, TellsVerdict}
 use Rattle.archive_hand.specs.Takes.{Ending, Replied, Starved, Faulted, Spoiled, TakesBy}
-use Rattle.archive_questions.specs.Endings.{proposed, version_shown, verified}
+use Rattle.archive_questions.specs.Endings.{proposed, told, version_shown, verified}
 use Rattle.archive_entries.specs.declared.error.ReadError.{ReadError}
 use Rattle.archive_entries.specs.declared.error.ReadError.TheVariants as reads
 use Rattle.archive_entries.specs.declared.error.Declined.{Declined}
@@ -58,17 +58,21 @@ pub no_reads : (s : Store) (d : DiskState) (a : ArchiveState) → AreInStepBy d 
 no_reads s d a in_step = ap (λ (ks : List Kept). record s { kept = ks; read = d.bytes_read.pages }) in_step.kept_are ∙ ap (λ (n : ℕ). record s { read = n }) in_step.read_is
 
 -- a question that needs no disk
-pub proposal_by : (Q : Reply → Type 0) (s : Store) (item : Item) (r : Result Proposal Declined) (d : DiskState) (a : ArchiveState) → ((reply : Reply) (next : Store) → next ≡ s → Q reply → StoreStep s item reply next) → AreInStepBy d a s
-    → ((why : Refusal) → r ≡ Err (declines.Refused why) → Q (Refused why)) → IfOk r (λ p. Q (Proposed p.segments.items p.nodes.items p.space)) → TakesBy s item (proposed r) d d a
-proposal_by Q s item r d a step in_step refused told = go r refused told
+pub told_by : {T : Type 0} (of : T → Reply) (Q : Reply → Type 0) (s : Store) (item : Item) (r : Result T Declined) (d : DiskState) (a : ArchiveState) → ((reply : Reply) (next : Store) → next ≡ s → Q reply → StoreStep s item reply next) → AreInStepBy d a s
+    → ((why : Refusal) → r ≡ Err (declines.Refused why) → Q (Refused why)) → IfOk r (λ p. Q (of p)) → TakesBy s item (told of r) d d a
+told_by {T} of Q s item r d a step in_step refused told_so = go r refused told_so
   where
     by : (reply : Reply) → Q reply → StoreStep s item reply (with_reads s a d)
     by reply is = step reply (with_reads s a d) (no_reads s d a in_step) is
 
-    go : (r : Result Proposal Declined) → ((why : Refusal) → r ≡ Err (declines.Refused why) → Q (Refused why)) → IfOk r (λ p. Q (Proposed p.segments.items p.nodes.items p.space)) → TakesBy s item (proposed r) d d a
-    go (Ok p) refused told = question_by Q s item (proposed (Ok p)) d d a a by refl refl in_step.cached in_step told
-    go (Err (declines.Refused why)) refused told = question_by Q s item (Replied (Refused why)) d d a a by refl refl in_step.cached in_step (refused why refl)
-    go (Err declines.Memory) refused told = question_by Q s item Starved d d a a by refl refl in_step.cached in_step tt
+    go : (r : Result T Declined) → ((why : Refusal) → r ≡ Err (declines.Refused why) → Q (Refused why)) → IfOk r (λ p. Q (of p)) → TakesBy s item (told of r) d d a
+    go (Ok p) refused told_so = question_by Q s item (told of (Ok p)) d d a a by refl refl in_step.cached in_step told_so
+    go (Err (declines.Refused why)) refused told_so = question_by Q s item (Replied (Refused why)) d d a a by refl refl in_step.cached in_step (refused why refl)
+    go (Err declines.Memory) refused told_so = question_by Q s item Starved d d a a by refl refl in_step.cached in_step tt
+
+pub proposal_by : (Q : Reply → Type 0) (s : Store) (item : Item) (r : Result Proposal Declined) (d : DiskState) (a : ArchiveState) → ((reply : Reply) (next : Store) → next ≡ s → Q reply → StoreStep s item reply next) → AreInStepBy d a s
+    → ((why : Refusal) → r ≡ Err (declines.Refused why) → Q (Refused why)) → IfOk r (λ p. Q (Proposed p.segments.items p.nodes.items p.space)) → TakesBy s item (proposed r) d d a
+proposal_by = told_by (λ (p : Proposal). Proposed p.segments.items p.nodes.items p.space)
 
 -- a version that was asked for
 pub show_by : {T : Type 0} (bytes : T → List ℕ) (s : Store) (doc : DocId) (at : Time) (r : Result (Option T) ReadError) (old new : DiskState) (a : ArchiveState)

@@ -1,16 +1,19 @@
 -- What is said of a question, whatever the disk holds: that its phrase is a query or none, and what its answer is made from.
-use Rattle.std.specs.Prelude.{◌≡◌, ℕ, List, Ok, Err}
+use Rattle.std.specs.Prelude.{◌≡◌, ℕ, List, Ok, Err, IsSome}
 use Rattle.machine_model.specs.States.{DiskState}
+use Rattle.base_types.specs.declared.ids.DocId.{DocId}
 use Rattle.pages_area.specs.Caches.{Kept}
 use Rattle.query_lang.specs.Grammar.{Query, IsRead}
 use Rattle.query_lang.specs.Meaning.{words_of}
 use Rattle.query_lang.specs.Tokens.{term_of}
 use Rattle.query_eval.specs.Firsts.{AreWantedOf}
+use Rattle.query_eval.specs.Found.{HasHit}
 use Rattle.query_eval.specs.declared.answer.Row.{Row}
 use Rattle.query_eval.specs.declared.answer.Wanted.{Wanted}
+use Rattle.query_eval.specs.declared.part.Part.{Part}
 use Rattle.model_archive.specs.declared.refusal.Refusal.{Refusal}
 use Rattle.model_archive.specs.declared.refusal.Refusal.TheVariants as refusals
-use Rattle.model_archive.specs.Histories.{History}
+use Rattle.model_archive.specs.Histories.{History, text_at}
 use Rattle.model_archive.specs.Chosen.{IsMadeAt, pieces_for}
 use Rattle.archive_hand.specs.Asking.{HasAsked}
 
@@ -35,3 +38,7 @@ IsAnswerTo history a b phrase IsMade was now old new =
 -- those rows that are asked for of an answer that is made from the lists chosen
 abbrev pub IsWantedAt : Wanted → History → List ℕ → ℕ → Query → List Row → ℕ → Type 0
 IsWantedAt wanted history pages t query rows read = AreWantedOf wanted (λ all. IsMadeAt history pages t query all read) rows
+
+-- each document that has one of the words at a time, by these parts, is alive then
+abbrev pub HitsAreAlive : History → List (List ℕ) → List Part → ℕ → Type 0
+HitsAreAlive history words parts t = (doc : DocId) → HasHit words parts t doc → IsSome (text_at history doc t)

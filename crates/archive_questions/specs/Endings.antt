@@ -5,7 +5,9 @@ use Rattle.plans_kinds.specs.declared.proposal.Proposal.{Proposal}
 use Rattle.query_eval.specs.declared.answer.Answer.{Answer}
 use Rattle.query_eval.specs.declared.spans.SpanAnswer.{SpanAnswer}
 use Rattle.model_archive.specs.declared.verdict.Verdict.{Verdict}
-use Rattle.model_archive.specs.Steps.{Reply, Refused, Found, Spanned, Version, Proposed, Verified}
+use Rattle.model_archive.specs.Steps.{Reply, Refused, Found, Spanned, Approximated, Neared, Version, Proposed, Verified}
+use Rattle.archive_questions.specs.declared.approximating.Approximation.{Approximation}
+use Rattle.archive_questions.specs.declared.approximating.RoughAnswer.{RoughAnswer}
 use Rattle.archive_questions.specs.declared.error.AskError.{AskError}
 use Rattle.archive_questions.specs.declared.error.AskError.TheVariants as asks
 use Rattle.archive_check.specs.declared.error.VerifyError.{VerifyError}
@@ -33,11 +35,20 @@ found = answered (λ answer. Found answer.rows.items answer.read)
 abbrev pub spanned : Result SpanAnswer AskError → Ending
 spanned = answered (λ answer. Spanned answer.rows.items answer.read)
 
+abbrev pub neared : Result RoughAnswer AskError → Ending
+neared = answered (λ answer. Neared answer.rows.items answer.read)
+
 -- how the other questions do: what needs no disk, a text that is read, and a check
+abbrev pub told : {T : Type 0} → (T → Reply) → Result T Declined → Ending
+told reply (Ok answer) = Replied (reply answer)
+told reply (Err (declines.Refused why)) = Replied (Refused why)
+told reply (Err declines.Memory) = Starved
+
 abbrev pub proposed : Result Proposal Declined → Ending
-proposed (Ok proposal) = Replied (Proposed proposal.segments.items proposal.nodes.items proposal.space)
-proposed (Err (declines.Refused why)) = Replied (Refused why)
-proposed (Err declines.Memory) = Starved
+proposed = told (λ proposal. Proposed proposal.segments.items proposal.nodes.items proposal.space)
+
+abbrev pub approximated : Result Approximation Declined → Ending
+approximated = told (λ answer. Approximated answer.short.items answer.full)
 
 abbrev pub version_shown : {T : Type 0} → (T → List ℕ) → Result (Option T) ReadError → Ending
 version_shown bytes (Ok text) = Replied (Version (option_map bytes text))

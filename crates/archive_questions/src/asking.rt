@@ -1,5 +1,5 @@
 //! What an archive is asked: the text of a document at a time, and what a query finds, or the first rows of it.
-ghost use Rattle.std.specs.Prelude.{◌≡◌, ◌+◌, ℕ, List, All, length, false, true, IsSome, IfOk, IsErrOf};
+ghost use Rattle.std.specs.Prelude.{◌≡◌, ◌+◌, ℕ, List, All, length, false, true, None, IsSome, IfOk, IsErrOf};
 ghost use Rattle.machine_model.specs.Causes.{Rose};
 ghost use Rattle.machine_model.specs.Calls.{OnlyReads};
 ghost use Rattle.query_lang.specs.Meaning.{words_of};
@@ -7,13 +7,13 @@ ghost use Rattle.query_eval.specs.Answers.{IsAnswer};
 ghost use Rattle.query_eval.specs.Firsts.{AreWantedOf};
 ghost use Rattle.query_eval.specs.Found.{told, read_of};
 ghost use Rattle.model_archive.specs.Histories.{History, text_at};
-ghost use Rattle.model_archive.specs.Plans.{is_another};
+ghost use Rattle.model_archive.specs.Plans.{is_another, plan_of};
 ghost use Rattle.model_archive.specs.Chosen.{AreChosen, IsMadeAt};
 ghost use Rattle.archive_questions.specs.After.{AfterFetching, AfterQuestion, Fetches};
 ghost use Rattle.archive_hand.specs.States.{StandsFor, AreInStepBy, Reaches};
 ghost use Rattle.archive_hand.specs.Stored.{Store};
 ghost use Rattle.archive_hand.specs.Takes.{TakesBy};
-ghost use Rattle.archive_questions.specs.Answering.{IsWantedAt};
+ghost use Rattle.archive_questions.specs.Answering.{HitsAreAlive, IsWantedAt};
 ghost use Rattle.archive_questions.specs.Endings.{found, version_shown};
 ghost use Rattle.base_commands.specs.declared.command.Command.TheVariants as commands;
 ghost use Rattle.base_commands.specs.declared.command.Item.TheVariants as items;
@@ -149,6 +149,26 @@ fn answer_by(
     ensures read { IfOk result (λ answer. answer.read ≡ read_of parts.now) }
     ensures rows { (h : History) (pages : List ℕ) → StandsFor archive.now h
         → AreChosen h pages at.seconds (at.seconds + 1) (words_of query.now) parts.now
+        → IfOk result (λ answer. AreWantedOf wanted (λ rows. IsAnswer (λ doc. IsSome (text_at h doc at.seconds))
+        (λ doc. told (words_of query.now) parts.now at.seconds doc.0) query.now rows) answer.rows.items) }
+{
+    answer_with(alloc, archive, query, at, parts, wanted)
+}
+
+/// The answer to a query by any lists of its words, if where no word has a plan all documents that have one
+/// of the words by these lists are alive.
+pub(crate) fn answer_with(
+    alloc: Global,
+    archive: &Archive,
+    query: &Query,
+    at: Time,
+    parts: &[Part],
+    wanted: Wanted,
+) -> Result<Answer, AllocError>
+    requires { length parts.now ≡ length (words_of query.now) }
+    ensures read { IfOk result (λ answer. answer.read ≡ read_of parts.now) }
+    ensures rows { (h : History) → StandsFor archive.now h
+        → (All (λ word. plan_of h word ≡ None) (words_of query.now) → HitsAreAlive h (words_of query.now) parts.now at.seconds)
         → IfOk result (λ answer. AreWantedOf wanted (λ rows. IsAnswer (λ doc. IsSome (text_at h doc at.seconds))
         (λ doc. told (words_of query.now) parts.now at.seconds doc.0) query.now rows) answer.rows.items) }
 {

@@ -1,4 +1,4 @@
-//! What an open archive is asked: what a query finds at a time, all of it or the first rows, and over a window, the text of a
+//! What an open archive is asked: what a query finds at a time, all of it, the first rows or approximately, and over a window, the text of a
 //! version, plans that are proposed and certified, and whether all is sound.
 //!
 //! A question changes nothing but which pages an archive keeps, and these go on being what reads
@@ -6,6 +6,7 @@
 //! the disk it is the history's (`specs/Answering.antt`, `specs/After.antt`).
 #![tactic(auto)]
 
+mod approximating;
 mod asking;
 mod certifying;
 mod checking;
@@ -14,6 +15,7 @@ mod error;
 mod planning;
 mod windows;
 
+pub use approximating::{Approximation, RoughAnswer, approx, rough};
 pub use asking::{find, show, top};
 pub use certifying::certificate;
 pub use checking::verify;

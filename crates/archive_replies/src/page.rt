@@ -1,10 +1,10 @@
 //! A page on which replies are written.
 ghost use Rattle.std.specs.Prelude.{◌≡◌, ◌+◌, ◌≤◌, [], ◌++◌, length, codes, decimal, Some, None, IfOk, OnOk, OnErr};
 ghost use Rattle.archive_replies.specs.Pages.{reply_room};
-ghost use Rattle.model_archive.specs.Replies.{cost_text, detail_text, end_text, node_text, reply_text, row_text, segment_text, space_text, span_text, which_text};
-ghost use Rattle.model_archive.specs.Steps.{Accepted, Refused, RefusedIn, Found, Spanned, Version, Proposed, Planned};
+ghost use Rattle.model_archive.specs.Replies.{approx_text, cost_text, detail_text, end_text, full_text, near_text, node_text, reply_text, row_text, segment_text, space_text, span_text, which_text};
+ghost use Rattle.model_archive.specs.Steps.{Accepted, Refused, RefusedIn, Found, Spanned, Approximated, Neared, Version, Proposed, Planned};
 
-use base_types::{Span, Which};
+use base_types::{Posting, Span, Which};
 use itoa::Buffer;
 use model_archive::{Refusal, Summary};
 use plans_kinds::{Node, Segment};
@@ -113,6 +113,32 @@ impl ReplyPage {
         self.put_end(rows.len(), read)
     }
 
+    /// Writes the postings of an approximation, and that the whole list has so many, in place of what the
+    /// page held. It takes memory; an error means that memory ran out, and leaves a part of the reply. The
+    /// cost is linear in the postings.
+    pub fn approximated(&mut self, short: &[Posting], full: u64) -> Result<(), AllocError>
+        ensures { OnOk result (self.new.bytes ≡ reply_text (Approximated short.now full)) }
+    {
+        self.clear();
+        for posting in short {
+            self.put_approx(posting)?;
+        }
+        self.put_short_end(short.len(), full)
+    }
+
+    /// Writes the rows that a query found by approximations, and that so many postings were read for them,
+    /// in place of what the page held. It takes memory; an error means that memory ran out, and leaves a
+    /// part of the reply. The cost is linear in the rows.
+    pub fn neared(&mut self, rows: &[Row], read: u64) -> Result<(), AllocError>
+        ensures { OnOk result (self.new.bytes ≡ reply_text (Neared rows.now read)) }
+    {
+        self.clear();
+        for row in rows {
+            self.put_near(row)?;
+        }
+        self.put_end(rows.len(), read)
+    }
+
     /// Writes the segments and the boundaries of a plan, and the space that it takes, in place of what
     /// the page held. It takes memory; an error means that memory ran out, and leaves a part of the
     /// reply. The cost is linear in both.
@@ -204,6 +230,44 @@ impl ReplyPage {
         self.put_named(b" ", span.from);
         self.put_named(b" ", span.to);
         self.put_named(b" ", score);
+        self.put(b"\n");
+        Ok(())
+    }
+
+    /// Adds the line of a posting. It takes memory where there is no room. Constant cost but for that.
+    fn put_approx(&mut self, posting: &Posting) -> Result<(), AllocError>
+        ensures { OnOk result (self.new.bytes ≡ self.old.bytes ++ approx_text posting.now) }
+    {
+        let Posting { doc, span, tf } = *posting;
+        self.make_room(REPLY_ROOM)?;
+        self.put_named(b"approx ", u64::from(doc.0));
+        self.put_named(b" ", span.from);
+        self.put_named(b" ", span.to);
+        self.put_named(b" ", u64::from(tf));
+        self.put(b"\n");
+        Ok(())
+    }
+
+    /// Adds how many postings there are, and how many the whole list has. It takes memory where there is
+    /// no room. Constant cost but for that.
+    fn put_short_end(&mut self, postings: usize, full: u64) -> Result<(), AllocError>
+        ensures { OnOk result (self.new.bytes ≡ self.old.bytes ++ full_text postings full) }
+    {
+        self.make_room(REPLY_ROOM)?;
+        self.put_named(b"end ", postings as u64);
+        self.put_named(b" of ", full);
+        self.put(b"\n");
+        Ok(())
+    }
+
+    /// Adds the line of a row by approximations. It takes memory where there is no room. Constant cost but
+    /// for that.
+    fn put_near(&mut self, row: &Row) -> Result<(), AllocError>
+        ensures { OnOk result (self.new.bytes ≡ self.old.bytes ++ near_text row.now) }
+    {
+        self.make_room(REPLY_ROOM)?;
+        self.put_named(b"near ", u64::from(row.doc.0));
+        self.put_named(b" ", row.score);
         self.put(b"\n");
         Ok(())
     }

@@ -1,6 +1,7 @@
 -- What follows from the definition of approximations.
 use Rattle.std.specs.Prelude.{◌≡◌, ◌↔◌, ℕ, ◌+◌, ◌*◌, List}
 use Rattle.base_types.specs.declared.posting.Posting.{Posting}
+use Rattle.lists_postings.specs.Lists.{IsList, SameRows}
 use Rattle.lists_approx.specs.Approximations.{IsNear, IsLongestFirst, IsFewest}
 use Rattle.base_types.specs.declared.tolerance.Tolerance.{Tolerance}
 
@@ -8,6 +9,16 @@ use Rattle.base_types.specs.declared.tolerance.Tolerance.{Tolerance}
 abbrev pub OneLongestFirst : Type 0
 OneLongestFirst = (tolerance : Tolerance) (list one other : List Posting) → IsLongestFirst tolerance list one
     → IsLongestFirst tolerance list other → one ≡ other
+
+-- Each list has one.
+abbrev pub EachHasALongestFirst : Type 0
+EachHasALongestFirst = (tolerance : Tolerance) (list : List Posting) → IsList list → (short : List Posting)
+    × IsLongestFirst tolerance list short
+
+-- Postings with the same rows at each time have the same longest-first approximation, in whatever order they stand.
+abbrev pub LongestFirstIsOfRows : Type 0
+LongestFirstIsOfRows = (tolerance : Tolerance) (list other short : List Posting) → SameRows list other
+    → IsLongestFirst tolerance list short → IsLongestFirst tolerance other short
 
 -- A longest-first approximation is fewest.
 abbrev pub LongestFirstIsFewest : Type 0

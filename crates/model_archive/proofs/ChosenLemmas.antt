@@ -1,5 +1,5 @@
 -- What is chosen from pages that hold the live plans tells what the history's texts do, and so the answer that is made from it is the history's.
-use Rattle.std.proofs.Common.{◌≡◌, ℕ, zero, suc, ◌+◌, ◌-◌, ◌^◌, ◌<◌, ◌≤◌, ◌==◌, Bool, true, false, cond, ◌&&◌, if◌then◌else◌, bytes_eq, List, [], ◌∷◌, ◌++◌, length, get_or, All, Option, Some, None, Ok, Err, IsSome, is_some, inl, inr, refl, ap, sym, subst, ◌∙◌, arith}
+use Rattle.std.proofs.Common.{◌≡◌, ℕ, zero, suc, ◌+◌, ◌^◌, ◌<◌, ◌≤◌, ◌==◌, Bool, true, false, cond, ◌&&◌, if◌then◌else◌, bytes_eq, List, [], ◌∷◌, ◌++◌, length, get_or, All, Option, Some, None, Ok, Err, IsSome, is_some, inl, inr, refl, ap, sym, subst, ◌∙◌, arith}
 use Rattle.std.specs.Cmp.Lexicographic.{bytes_decides}
 use Rattle.std.proofs.lemmas.Bool.{cases_lt}
 use Rattle.std.proofs.lemmas.Bool.Decides.{nat_tests}
@@ -117,7 +117,7 @@ joined_tell h word a b horizon sealed stored tail now up_to is tells doc t from 
 ]
 
 -- the list that is chosen of a word tells it, and as much is read as should be
-word_chosen : (h : History) (pages : List ℕ) (word : List ℕ) (a b : ℕ) (list : List Posting) (read : ℕ) → b ≤ 2 ^ 40 → IsLoadable h → HoldsPlans h pages
+pub word_chosen : (h : History) (pages : List ℕ) (word : List ℕ) (a b : ℕ) (list : List Posting) (read : ℕ) → b ≤ 2 ^ 40 → IsLoadable h → HoldsPlans h pages
     → IsChosenOf h pages word (plan_of h word) a b list read → Tells h word a b list × IsReadOf h word (plan_of h word) a b read
 word_chosen h pages word a b list read now loads held_all = go (plan_of h word) refl
   where
@@ -197,7 +197,7 @@ module _ (h : History) (pages : List ℕ) (a b : ℕ) (now : b ≤ 2 ^ 40) (load
       → told words parts t doc.0 (get_or words k d) ≡ frequency_at h (get_or words k d) doc t
   chosen_told words parts doc t k d from to are within = told_by h a b words parts doc t k d from to (held_tell words parts are) within
 
-  chosen_read : (words : List (List ℕ)) (parts : List Part) → AreChosen h pages a b words parts → IsReadFor h a b words (read_of parts)
+  pub chosen_read : (words : List (List ℕ)) (parts : List Part) → AreChosen h pages a b words parts → IsReadFor h a b words (read_of parts)
   chosen_read [] [] are = refl
   chosen_read [] (part ∷ parts) are = absurd are
   chosen_read (word ∷ words) [] are = absurd are

@@ -13,6 +13,9 @@ pub mod OrderLemmas
 pub mod VerifyLemmas
 pub mod CertifyingLemmas
 mod BatchOutcomes
+mod NearLemmas
+mod RoughLemmas
 pub mod OutcomeLemmas
 mod BoundLemmas
 pub mod ChosenLemmas
+pub mod RoughMade

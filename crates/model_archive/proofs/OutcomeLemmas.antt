@@ -10,6 +10,7 @@ use Rattle.base_types.specs.declared.ids.DocId.{DocId}
 use Rattle.base_types.specs.declared.time.Span.{Span}
 use Rattle.base_types.specs.declared.time.Time.{Time}
 use Rattle.base_types.specs.declared.posting.Posting.{Posting}
+use Rattle.base_types.specs.declared.tolerance.Tolerance.{Tolerance}
 use Rattle.lists_postings.proofs.Existence.{each_has_a_list}
 use Rattle.lists_postings.proofs.Clipping.{one_list_of}
 use Rattle.plans_kinds.specs.declared.proposal.Node.{Node}
@@ -60,12 +61,13 @@ use Rattle.base_commands.specs.declared.command.Kind.TheVariants.{Guarantee}
 use Rattle.base_commands.specs.declared.count.TopCount.{TopCount}
 use Rattle.base_commands.specs.declared.text.Text.TheVariants as texts
 use Rattle.model_archive.specs.declared.summary.Summary.{Summary}
-use Rattle.model_archive.specs.Steps.{Reply, Accepted, Refused, Found, Spanned, Version, Proposed, Planned, Verified, Adds, Declines, IsRepliedBy, IsReplied, Finds, FindsBy, Tops, TopsBy, Spans, SpansBy, Proposes, ProposesPlan, Plans, StoresPlan, spelled_key, CarriesOut, Step, too_long, bad_text, full_journal, arrival_refusal, deletion_refusal, mark_refusal}
+use Rattle.model_archive.specs.Steps.{Reply, Accepted, Refused, Found, Spanned, Version, Proposed, Planned, Verified, Adds, Declines, IsRepliedBy, IsReplied, Finds, FindsBy, Tops, TopsBy, Neared, NearsBy, Spans, SpansBy, Proposes, ProposesPlan, Plans, StoresPlan, spelled_key, CarriesOut, Step, too_long, bad_text, full_journal, arrival_refusal, deletion_refusal, mark_refusal}
 use Rattle.model_archive.specs.Runs.{Outcome, IsRun}
 use Rattle.model_archive.specs.Worlds.{World, world_of}
 use Rattle.model_archive.proofs.HistoryLemmas.{legal-push, loadable-push, entry_loads}
 use Rattle.model_archive.proofs.BatchLemmas.{none_found}
 use Rattle.model_archive.proofs.BatchOutcomes.{no_cause, is_true, each_batch, batches_keep, one_batch}
+use Rattle.model_archive.proofs.RoughLemmas.{each_approximates, one_approximates, each_rough, one_rough}
 use Rattle.model_archive.proofs.StoringLemmas.{plan_outcome, plans_keep}
 use Rattle.model_archive.proofs.ToldLemmas.{plans_alike}
 use Rattle.model_archive.proofs.CertifyingLemmas.{each_certifies, one_certifies}
@@ -212,6 +214,13 @@ each_topped h count at loads query =
 each_tops : (h : History) (count : TopCount) (at : Time) (text : List ℕ) → IsLoadable h → (reply : Reply) × Tops h count at text reply
 each_tops h count at text loads = each_text (TopsBy h count at) (each_topped h count at loads) text
 
+-- each query has a rough answer
+each_neared : (h : History) (tolerance : Tolerance) (at : Time) → IsLoadable h → (query : Query) → (reply : Reply) × NearsBy h tolerance at query reply
+each_neared h tolerance at loads query =
+    let (rows, rough) = each_rough h tolerance at.seconds query (λ word. each_word_list h word loads) in
+    let read = each_read h 0 (2 ^ 40) (words_of query) loads in
+    (Neared rows read.0, (rows, read.0, rough, read.1, refl))
+
 each_spanned : (h : History) (span : Span) → IsLoadable h → (query : Query) → (reply : Reply) × SpansBy h span query reply
 each_spanned h span loads query =
     let given = each-window (λ doc t. is_some (text_at h doc t)) (λ doc t word. frequency_at h word doc t) query (2 ^ 32) span.from span.to span.in_time
@@ -255,6 +264,10 @@ each_command h (commands.Find at expr) loads =
     (record { reply = found.0; next = h }, (refl, found.1))
 each_command h (commands.Top count at expr) loads =
     let tops = each_tops h count at expr loads in (record { reply = tops.0; next = h }, (refl, tops.1))
+each_command h (commands.Approx word tolerance) loads =
+    let told = each_approximates h word tolerance (λ w. each_word_list h w loads) in (record { reply = told.0; next = h }, (refl, told.1))
+each_command h (commands.Rough tolerance at expr) loads =
+    let near = each_text (NearsBy h tolerance at) (each_neared h tolerance at loads) expr in (record { reply = near.0; next = h }, (refl, near.1))
 each_command h (commands.Show doc at) loads = (record { reply = Version (text_at h doc at.seconds); next = h }, (refl, refl))
 each_command h (commands.Plan word kind fraction) loads = each_plans h word kind fraction loads
 each_command h (commands.Propose word fraction) loads =
@@ -297,6 +310,8 @@ command_keeps P push h commands.Format reply next is range step = adds_keep P pu
 command_keeps P push h (commands.Batch batch) reply next is range step = batches_keep P push h batch reply next is range step
 command_keeps P push h (commands.Find at expr) reply next is range step = stays P h next is step.0
 command_keeps P push h (commands.Top count at expr) reply next is range step = stays P h next is step.0
+command_keeps P push h (commands.Approx word tolerance) reply next is range step = stays P h next is step.0
+command_keeps P push h (commands.Rough tolerance at expr) reply next is range step = stays P h next is step.0
 command_keeps P push h (commands.Show doc at) reply next is range step = stays P h next is step.0
 command_keeps P push h (commands.Plan word kind fraction) reply next is range step = plans_keep P push h word kind fraction reply next is step
 command_keeps P push h (commands.Propose word fraction) reply next is range step = stays P h next is step.0
@@ -389,6 +404,12 @@ one_topped h count at query reply other a b =
 one_tops : (h : History) (count : TopCount) (at : Time) (text : List ℕ) (reply other : Reply) → Tops h count at text reply → Tops h count at text other → reply ≡ other
 one_tops h count at text = one_text (TopsBy h count at) (one_topped h count at) text
 
+one_neared : (h : History) (tolerance : Tolerance) (at : Time) → IsOnly (NearsBy h tolerance at)
+one_neared h tolerance at query reply other a b =
+    let rows = one_rough h tolerance at.seconds query a.0 b.0 a.2 b.2 in
+    let read = one_read h 0 (2 ^ 40) (words_of query) a.1 b.1 a.3 b.3 in
+    a.4 ∙ ap (λ (r : List Row). Neared r a.1) rows ∙ ap (λ (n : ℕ). Neared b.0 n) read ∙ sym b.4
+
 one_spanned : (h : History) (span : Span) → IsOnly (SpansBy h span)
 one_spanned h span query reply other a b =
     let rows = longest.one row_kind plain-rows (scored_at (λ doc t. is_some (text_at h doc t)) (λ doc t word. frequency_at h word doc t) query) span.from span.to a.0 b.0 a.2 b.2 in
@@ -424,6 +445,8 @@ one_command h commands.Format reply other next then free a b = one_adds h entrie
 one_command h (commands.Batch batch) reply other next then free a b = one_batch h batch reply other next then a b
 one_command h (commands.Find at expr) reply other next then free a b = one_stays h reply other next then a.0 b.0 (one_finds h at expr reply other a.1 b.1)
 one_command h (commands.Top count at expr) reply other next then free a b = one_stays h reply other next then a.0 b.0 (one_tops h count at expr reply other a.1 b.1)
+one_command h (commands.Approx word tolerance) reply other next then free a b = one_stays h reply other next then a.0 b.0 (one_approximates h word tolerance reply other a.1 b.1)
+one_command h (commands.Rough tolerance at expr) reply other next then free a b = one_stays h reply other next then a.0 b.0 (one_text (NearsBy h tolerance at) (one_neared h tolerance at) expr reply other a.1 b.1)
 one_command h (commands.Show doc at) reply other next then free a b = one_stays h reply other next then a.0 b.0 (a.1 ∙ sym b.1)
 one_command h (commands.Plan word kind fraction) reply other next then free a b = absurd (free tt)
 one_command h (commands.Propose word fraction) reply other next then free a b = absurd (free tt)

@@ -5,11 +5,13 @@ pub mod Chosen
 pub mod Histories
 pub mod Holding
 pub mod Legal
+pub mod Nearness
 pub mod Orders
 pub mod Planning
 pub mod Plans
 pub mod Refusals
 pub mod Replies
+pub mod Rough
 pub mod Rows
 pub mod Runs
 pub mod Standing

@@ -2,6 +2,7 @@
 use Rattle.std.specs.Prelude.{ℕ, ◌/◌, ◌%◌, List, [], ◌∷◌, ◌++◌, length, get_or, Option, Some, None, codes}
 use Rattle.std.specs.List.{flat_map}
 use Rattle.std.specs.Fmt.{decimal}
+use Rattle.base_types.specs.declared.posting.Posting.{Posting}
 use Rattle.base_types.specs.declared.which.Which.{Which}
 use Rattle.base_types.specs.declared.which.Which.TheVariants.{Documents, Versions, Words, Journal, Pages}
 use Rattle.plans_kinds.specs.declared.proposal.Node.{Node}
@@ -14,7 +15,7 @@ use Rattle.model_archive.specs.declared.summary.Summary.{Summary}
 use Rattle.model_archive.specs.declared.verdict.Verdict.{Verdict}
 use Rattle.model_archive.specs.declared.verdict.Verdict.TheVariants.{Sound, Differs, NotLeast, BadText}
 use Rattle.model_archive.specs.Refusals.{number_of}
-use Rattle.model_archive.specs.Steps.{Reply, Accepted, Refused, RefusedIn, Found, Spanned, Version, Proposed, Planned, Verified}
+use Rattle.model_archive.specs.Steps.{Reply, Accepted, Refused, RefusedIn, Found, Spanned, Approximated, Neared, Version, Proposed, Planned, Verified}
 
 -- the name of a limit in a reply
 abbrev pub which_text : Which → List ℕ
@@ -78,6 +79,28 @@ answer_text rows read = flat_map row_text rows ++ end_text (length rows) read
 abbrev pub spans_text : List SpanRow → ℕ → List ℕ
 spans_text rows read = flat_map span_text rows ++ end_text (length rows) read
 
+-- the line of a posting: the document, its first second and the one behind its last, and how often it has the word
+abbrev pub approx_text : Posting → List ℕ
+approx_text p =
+    codes "approx " ++ decimal p.doc.0 ++ codes " " ++ decimal p.span.from ++ codes " " ++ decimal p.span.to ++ codes " "
+    ++ decimal p.tf ++ 10 ∷ []
+
+-- the last line of an approximation: how many postings there are, and how many the whole list has
+abbrev pub full_text : ℕ → ℕ → List ℕ
+full_text count full = codes "end " ++ decimal count ++ codes " of " ++ decimal full ++ 10 ∷ []
+
+-- a line for each posting, and the last line
+abbrev pub approximated_text : List Posting → ℕ → List ℕ
+approximated_text short full = flat_map approx_text short ++ full_text (length short) full
+
+-- the line of a row by approximations: the document and the score
+abbrev pub near_text : Row → List ℕ
+near_text row = codes "near " ++ decimal row.doc.0 ++ codes " " ++ decimal row.score ++ 10 ∷ []
+
+-- a line for each of these rows, and the last line
+abbrev pub neared_text : List Row → ℕ → List ℕ
+neared_text rows read = flat_map near_text rows ++ end_text (length rows) read
+
 -- a line with the text's length, and the text; or that there is none
 abbrev pub version_text : Option (List ℕ) → List ℕ
 version_text None = codes "none" ++ 10 ∷ []
@@ -136,6 +159,8 @@ reply_text (Refused why) = refusal_text why
 reply_text (RefusedIn why index) = refusal_in_text why index
 reply_text (Found rows read) = answer_text rows read
 reply_text (Spanned rows read) = spans_text rows read
+reply_text (Approximated short full) = approximated_text short full
+reply_text (Neared rows read) = neared_text rows read
 reply_text (Version text) = version_text text
 reply_text (Proposed segments nodes total) = proposal_text segments nodes total
 reply_text (Planned summary) = summary_text summary

@@ -1,5 +1,5 @@
 -- The machine that an archive is: what an item of the input does to a history, and what is replied.
-use Rattle.std.specs.Prelude.{◌≡◌, ◌⊎◌, ℕ, ◌+◌, nat_lt, not, if◌then◌else◌, List, [], ◌∷◌, ◌++◌, length, take, Option, Some, None, unwrap_or, Result, Ok, Err}
+use Rattle.std.specs.Prelude.{◌≡◌, ◌⊎◌, ℕ, ◌+◌, ◌^◌, nat_lt, not, if◌then◌else◌, List, [], ◌∷◌, ◌++◌, length, take, Option, Some, None, unwrap_or, Result, Ok, Err}
 use Rattle.std.specs.List.{AllZip, flat_map}
 use Rattle.std.specs.Option.{option_map}
 use Rattle.std.specs.Str.{is_utf8}
@@ -10,6 +10,7 @@ use Rattle.base_types.specs.declared.ids.DocId.{DocId}
 use Rattle.base_types.specs.declared.posting.Posting.{Posting}
 use Rattle.base_types.specs.declared.time.Span.{Span}
 use Rattle.base_types.specs.declared.time.Time.{Time}
+use Rattle.base_types.specs.declared.tolerance.Tolerance.{Tolerance}
 use Rattle.base_types.specs.declared.which.Which.TheVariants.{Journal, Pages}
 use Rattle.base_commands.specs.Batches.{texts_bytes}
 use Rattle.base_commands.specs.declared.batch.BatchItem.{BatchItem}
@@ -25,6 +26,7 @@ use Rattle.base_commands.specs.declared.command.Kind.TheVariants.{Guarantee}
 use Rattle.base_commands.specs.declared.count.TopCount.{TopCount}
 use Rattle.base_commands.specs.declared.text.Text.{Text}
 use Rattle.base_commands.specs.declared.text.Text.TheVariants as texts
+use Rattle.lists_approx.specs.Approximations.{IsLongestFirst}
 use Rattle.lists_versions.specs.Tests.{first_of, when}
 use Rattle.journal_entries.specs.Acts.{most_text}
 use Rattle.journal_entries.specs.declared.act.Act.{Act}
@@ -52,10 +54,11 @@ use Rattle.model_archive.specs.declared.refusal.Refusal.TheVariants as refusals
 use Rattle.model_archive.specs.declared.summary.Summary.{Summary}
 use Rattle.model_archive.specs.declared.verdict.Verdict.{Verdict}
 use Rattle.model_archive.specs.Histories.{History, act_refusal, entry_refusal, old_format, long_batch, most_batch, singles, end_of, text_at}
-use Rattle.model_archive.specs.Answers.{IsAnswerAt, IsSpanAnswerAt}
+use Rattle.model_archive.specs.Answers.{IsAnswerAt, IsSpanAnswerAt, IsWordList}
 use Rattle.model_archive.specs.Chosen.{IsReadFor}
 use Rattle.model_archive.specs.Planning.{OfPhrase, OfTerm, IsListUpTo, last_second}
 use Rattle.model_archive.specs.Plans.{live_extents, plan_of}
+use Rattle.model_archive.specs.Rough.{IsRoughAnswer}
 use Rattle.model_archive.specs.Verifying.{Verifies}
 use Rattle.model_archive.specs.Worlds.{World}
 
@@ -71,6 +74,10 @@ pub data Reply : Type 0 where
   Found : List Row → ℕ → Reply
   -- the same of a window of time
   Spanned : List SpanRow → ℕ → Reply
+  -- the postings of an approximation, and how many the whole list has
+  Approximated : List Posting → ℕ → Reply
+  -- the rows that match by approximations, and how many postings were read for them
+  Neared : List Row → ℕ → Reply
   -- the text, if the document is alive then
   Version : Option (List ℕ) → Reply
   -- the segments of a plan with their sizes, the boundaries with the least space up to each, and the plan's space
@@ -140,6 +147,22 @@ TopsBy history count at query reply =
 -- the same by a text
 abbrev pub Tops : History → TopCount → Time → List ℕ → Reply → Type 0
 Tops history count at text reply = IsReplied (TopsBy history count at) text reply
+
+-- what is told of a phrase's word approximately: it is refused, or the longest-first approximation of its whole list is told
+abbrev pub Approximates : History → List ℕ → Tolerance → Reply → Type 0
+Approximates history phrase tolerance reply = OfTerm history (one_term phrase) (λ why. reply ≡ Refused why)
+    (λ word. (whole short : List Posting) × IsWordList history word whole × IsLongestFirst tolerance whole short
+    × (reply ≡ Approximated short (length whole)))
+
+-- what is found approximately at a time by a query, and the postings read, which are those of the words' whole lists over all times
+abbrev pub NearsBy : History → Tolerance → Time → Query → Reply → Type 0
+NearsBy history tolerance at query reply =
+    (rows : List Row) × (read : ℕ) × IsRoughAnswer history tolerance at.seconds query rows
+    × IsReadFor history 0 (2 ^ 40) (words_of query) read × (reply ≡ Neared rows read)
+
+-- the same by a text
+abbrev pub Nears : History → Tolerance → Time → List ℕ → Reply → Type 0
+Nears history tolerance at text reply = IsReplied (NearsBy history tolerance at) text reply
 
 -- what is found over a window of time by a query, in rows and postings read
 abbrev pub SpansBy : History → Span → Query → Reply → Type 0
@@ -322,6 +345,8 @@ CarriesOut old commands.Format reply new = Adds old entries.Format (mark_refusal
 CarriesOut old (commands.Batch batch) reply new = Batches old batch reply new
 CarriesOut old (commands.Find at expr) reply new = (new ≡ old) × Finds old at expr reply
 CarriesOut old (commands.Top count at expr) reply new = (new ≡ old) × Tops old count at expr reply
+CarriesOut old (commands.Approx word tolerance) reply new = (new ≡ old) × Approximates old word tolerance reply
+CarriesOut old (commands.Rough tolerance at expr) reply new = (new ≡ old) × Nears old tolerance at expr reply
 CarriesOut old (commands.Show doc at) reply new = (new ≡ old) × (reply ≡ Version (text_at old doc at.seconds))
 CarriesOut old (commands.Plan word kind fraction) reply new = Plans old word kind fraction reply new
 CarriesOut old (commands.Propose word fraction) reply new = (new ≡ old) × Proposes old word fraction reply

@@ -12,6 +12,7 @@ ghost use Rattle.model_archive.specs.declared.summary.Summary.{Summary};
 ghost use Rattle.model_archive.specs.Steps.{Reply, Planned, Step};
 ghost use Rattle.model_archive.specs.Runs.{Outcome};
 ghost use Rattle.model_archive.specs.Stands.{Stands, IsNotArchive, bodies_of};
+ghost use Rattle.model_archive.specs.Nearness.{NearByFrequencies, RoughIsNear, MadeRoughStands};
 ghost use Rattle.model_archive.specs.Worlds.{World};
 ghost use Rattle.model_archive.specs.Bounds.{HoldersAreDocuments, PlannedReadsAreBounded, PlannedSpaceIsCapped, MadeAtStands, MadeOverStands, HeldIsUndamaged, UnplannedHitsAreAlive, CertifiedPlansAreLeast, GoodPlansAreSound};
 
@@ -88,4 +89,13 @@ pub fn what_is_made_of_held_pages_stands()
     ensures over { MadeOverStands }
     ensures undamaged { HeldIsUndamaged }
     ensures alive { UnplannedHitsAreAlive }
+{}
+
+/// A rough answer has exactly the documents of the exact one, and each score is near the true one: they
+/// differ by at most the tolerance's part of the true one. What is made approximately from pages that hold
+/// the live plans is such an answer, and costs what it should. Does nothing.
+pub fn rough_answers_are_near()
+    ensures near { RoughIsNear }
+    ensures frequencies { NearByFrequencies }
+    ensures made { MadeRoughStands }
 {}

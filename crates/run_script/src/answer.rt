@@ -2,12 +2,12 @@
 ghost use Rattle.std.specs.Prelude.{◌≡◌, ◌⊎◌, Ok, OnOk, IsOk, IsErrOf};
 ghost use Rattle.machine_model.specs.Causes.{Rose};
 ghost use Rattle.model_archive.specs.Replies.{reply_text};
-ghost use Rattle.model_archive.specs.Steps.{Found, Refused, Reply, Spanned};
+ghost use Rattle.model_archive.specs.Steps.{Found, Neared, Refused, Reply, Spanned};
 ghost use Rattle.archive_hand.specs.States.{AreInStepBy};
 ghost use Rattle.archive_hand.specs.Stored.{Store, TellsNoEntry};
 ghost use Rattle.archive_hand.specs.Adding.{IsDone};
 ghost use Rattle.archive_changes.specs.Endings.{changed, changed_all, plainly, planned, unchanged};
-ghost use Rattle.archive_questions.specs.Endings.{proposed, version_shown, unanswered, verified};
+ghost use Rattle.archive_questions.specs.Endings.{approximated, proposed, version_shown, unanswered, verified};
 ghost use Rattle.base_commands.specs.declared.command.Item.TheVariants as items;
 ghost use Rattle.base_commands.specs.declared.command.Command.TheVariants as plain;
 ghost use Rattle.run_script.specs.Causes.{IsLeft};
@@ -18,7 +18,10 @@ use archive_changes::{BatchError, batch, delete, mark_format, plan};
 use archive_check::VerifyError;
 use archive_entries::{Declined, ReadError};
 use archive_hand::{Archive, ChangeError};
-use archive_questions::{AskError, between, certificate, find, propose, show, top, verify};
+use archive_questions::{
+    Approximation, AskError, RoughAnswer, approx, between, certificate, find, propose, rough, show,
+    top, verify,
+};
 use archive_replies::ReplyPage;
 use base_commands::{Command, Item, MOST_TEXT_BYTES, Text};
 use base_types::{DocId, Time};
@@ -70,6 +73,18 @@ pub(crate) fn answer<D: Disk>(
             let result = top(alloc, disk, archive, count, at, &expr);
             write_answer(page, result)
         }
+        Command::Approx { word, tolerance } => {
+            let result = approx(alloc, archive, &word, tolerance);
+            write_approximated(page, result)
+        }
+        Command::Rough {
+            tolerance,
+            at,
+            expr,
+        } => {
+            let result = rough(alloc, disk, archive, tolerance, at, &expr);
+            write_answer(page, result)
+        }
         Command::Between { span, expr } => {
             let result = between(alloc, disk, archive, span, &expr);
             write_answer(page, result)
@@ -100,8 +115,6 @@ pub(crate) fn answer<D: Disk>(
         }
         Command::Begin { .. } => refuse(page, Refusal::Line),
         Command::Best { .. } => refuse(page, Refusal::Line),
-        Command::Approx { .. } => refuse(page, Refusal::Line),
-        Command::Rough { .. } => refuse(page, Refusal::Line),
         Command::Share { .. } => refuse(page, Refusal::Line),
     }
 }
@@ -244,6 +257,14 @@ impl Written for Answer {
     }
 }
 
+impl Written for RoughAnswer {
+    ghost reply = { λ answer. Neared answer.rows.items answer.read };
+
+    fn write(&self, page: &mut ReplyPage) -> Result<(), AllocError> {
+        page.neared(&self.rows, self.read)
+    }
+}
+
 impl Written for SpanAnswer {
     ghost reply = { λ answer. Spanned answer.rows.items answer.read };
 
@@ -274,6 +295,25 @@ fn write_proposed(page: &mut ReplyPage, plan: Result<Proposal, Declined>) -> Res
     match plan {
         Ok(plan) => {
             page.proposed(&plan.segments, &plan.nodes, plan.space)?;
+            Ok(())
+        }
+        Err(Declined::Refused(why)) => refuse(page, why),
+        Err(Declined::Memory) => Err(Halt::Memory),
+    }
+}
+
+/// Writes an approximation that was asked for on the page, or halts the run.
+fn write_approximated(
+    page: &mut ReplyPage,
+    approximation: Result<Approximation, Declined>,
+) -> Result<(), Halt>
+    ensures writes { Writes (approximated approximation) result page.new.bytes }
+    ensures fault { IsErrOf result Halt.Disk → ⊥ }
+    ensures undamaged { (d : Damage) → IsErrOf result (Halt.Damaged d) → ⊥ }
+{
+    match approximation {
+        Ok(approximation) => {
+            page.approximated(&approximation.short, approximation.full)?;
             Ok(())
         }
         Err(Declined::Refused(why)) => refuse(page, why),

@@ -1,6 +1,8 @@
 //! Replies as bytes.
+ghost use Rattle.std.specs.Prelude.{◌≤◌};
+
 use archive_replies::{ReplyPage, Tally};
-use base_types::{DocId, Key, NOW, Span, Time, Which};
+use base_types::{DocId, Key, NOW, Posting, Span, Time, Which};
 use model_archive::{Refusal, Summary, Verdict};
 use plans_kinds::{Node, Segment};
 use query_eval::{Row, SpanRow};
@@ -147,6 +149,54 @@ fn span_row(rt: &impl Abort, doc: u32, from: u64, to: u64, score: u64) -> SpanRo
     let doc = DocId(doc);
     let span = Span::new(from, to).expect(rt, "a span");
     SpanRow { doc, span, score }
+}
+
+#[test]
+fn approximations_are_a_line_a_posting_and_an_end(rt: HostRuntime) {
+    let mut page = ReplyPage::new(rt.alloc()).expect(&rt, "memory");
+    page.approximated(&[posting(&rt, 1, 10, 40, 5)], 3)
+        .expect(&rt, "memory");
+    assert_eq!(rt;
+        page.as_bytes(),
+        "approx 1 10 40 5\nend 1 of 3\n".as_bytes()
+    );
+    page.approximated(&[], 0).expect(&rt, "memory");
+    assert_eq!(rt; page.as_bytes(), "end 0 of 0\n".as_bytes());
+    page.approximated(
+        &[
+            posting(&rt, 2, 0, 1, 4194304),
+            posting(&rt, 4294967295, 15, 1099511627776, 4294967295),
+        ],
+        1099511627776,
+    )
+    .expect(&rt, "memory");
+    assert_eq!(rt;
+        page.as_bytes(),
+        "approx 2 0 1 4194304\napprox 4294967295 15 1099511627776 4294967295\nend 2 of 1099511627776\n".as_bytes()
+    );
+}
+
+fn posting(rt: &impl Abort, doc: u32, from: u64, to: u64, tf: u32) -> Posting
+    requires { 1 ≤ tf }
+{
+    let doc = DocId(doc);
+    let span = Span::new(from, to).expect(rt, "a span");
+    Posting { doc, span, tf }
+}
+
+#[test]
+fn rough_answers_are_a_line_a_row_and_an_end(rt: HostRuntime) {
+    let mut page = ReplyPage::new(rt.alloc()).expect(&rt, "memory");
+    page.neared(&[row(1, 5)], 3).expect(&rt, "memory");
+    assert_eq!(rt; page.as_bytes(), "near 1 5\nend 1 read 3\n".as_bytes());
+    page.neared(&[], 0).expect(&rt, "memory");
+    assert_eq!(rt; page.as_bytes(), "end 0 read 0\n".as_bytes());
+    page.neared(&[row(4294967295, 1000), row(2, 0)], 6)
+        .expect(&rt, "memory");
+    assert_eq!(rt;
+        page.as_bytes(),
+        "near 4294967295 1000\nnear 2 0\nend 2 read 6\n".as_bytes()
+    );
 }
 
 #[test]

@@ -91,6 +91,30 @@ class History:
         rows = sorted(rows)[:count]
         return [*(f"hit {doc} {-score}" for score, doc in rows), f"end {len(rows)} read {read}"]
 
+    def approx(self, word: str, tolerance: tuple[int, int]) -> list[str]:
+        postings = self._list(self._known(word))
+        short = _shortened(postings, tolerance)
+        return [
+            *(f"approx {doc} {left} {right} {count}" for doc, count, left, right in short),
+            f"end {len(short)} of {len(postings)}",
+        ]
+
+    def rough(self, tolerance: tuple[int, int], time: int, expr: str) -> list[str]:
+        query = self._query(expr)
+        near = {word: self._near_at(word, tolerance, time) for word in query.words}
+        rows = []
+        for doc in self._versions:
+            version = self._at(doc, time)
+            if version and version.text is not None and query.matches(lambda word: near[word].get(doc, 0)):
+                rows.append((-query.score(lambda word: near[word].get(doc, 0)), doc))
+        read = sum(self._read_between(word, 0, NOW) for word in query.words)
+        return [*(f"near {doc} {-score}" for score, doc in sorted(rows)), f"end {len(rows)} read {read}"]
+
+    def _near_at(self, key: str, tolerance: tuple[int, int], time: int) -> dict[int, int]:
+        """How often documents have a word at a time, by its approximation."""
+        short = _shortened(self._list(key), tolerance)
+        return {doc: count for doc, count, left, right in short if left <= time < right}
+
     def between(self, start: int, end: int, expr: str) -> list[str]:
         query = self._query(expr)
         rows: list[list[int]] = []
@@ -289,6 +313,21 @@ def _clipped(postings: list[Posting], start: int, end: int) -> list[Posting]:
         for doc, count, left, right in postings
         if left < end and right > start
     ]
+
+
+def _shortened(postings: list[Posting], tolerance: tuple[int, int]) -> list[Posting]:
+    """Neighbours are joined while one frequency is near all of them; the least such one is told."""
+    short: list[Posting] = []
+    most = 0
+    for doc, count, left, right in postings:
+        slack = count * tolerance[0] // tolerance[1]
+        if short and (short[-1][0], short[-1][3]) == (doc, left) and max(short[-1][1], count - slack) <= min(most, count + slack):
+            short[-1] = (doc, max(short[-1][1], count - slack), short[-1][2], right)
+            most = min(most, count + slack)
+        else:
+            short.append((doc, count - slack, left, right))
+            most = count + slack
+    return short
 
 
 def _pieces(table: Table, plan: Plan, best: list[int]) -> list[str]:

@@ -11,8 +11,8 @@ from typing import Iterator
 from .base import FOREVER, MOST_BATCH, MOST_BYTES, MOST_DOCUMENTS, MOST_TEXT, MOST_VERSIONS, MOST_WORDS, PAGE
 from .base import Broken, Differs, NoCommand, NotArchive, Refused
 from .journal import Batch, Change, Mark, Place, Plan, read_entry, read_journal, spell_journal, sublist
-from .plans import GUARANTEE, SINCE, UNIFORM, Line, Posting, stretches, test_segments, test_width, told
-from .script import Item, count_of, document_of, factor_of, items, query_behind, time_of
+from .plans import GUARANTEE, SINCE, UNIFORM, Line, Posting, near_postings, stretches, test_segments, test_width, told
+from .script import Item, count_of, document_of, factor_of, items, query_behind, time_of, tolerance_of
 from .words import Query, keys, one_key
 
 
@@ -158,6 +158,10 @@ class Archive:
                 return self._find(time_of([time]), query_behind(item.line, 2))
             case [b"top", count, time, _, *_]:
                 return self._top(count_of(count), time_of([time]), query_behind(item.line, 3))
+            case [b"approx", word, tolerance]:
+                return self._approx(word.decode(), tolerance_of(tolerance))
+            case [b"rough", tolerance, time, _, *_]:
+                return self._rough(tolerance_of(tolerance), time_of([time]), query_behind(item.line, 3))
             case [b"between", start, end, _, *_] if time_of([start]) < time_of([end]):
                 return self._between(time_of([start]), time_of([end]), query_behind(item.line, 3))
             case [b"show", document, time]:
@@ -280,6 +284,24 @@ class Archive:
         rows = sorted((-score, document) for document, score in scores.items() if score is not None)
         hits = [f"hit {document} {-score}" for score, document in rows[:most]]
         return [*hits, f"end {len(hits)} read {self._read(query, time, time + 1)}"]
+
+    def _approx(self, word: str, tolerance: tuple[int, int]) -> list[str]:
+        whole = self.postings(self._known(word))
+        short = near_postings(whole, tolerance)
+        told = ["approx %d %d %d %d" % (it.document, it.start, it.end, it.frequency) for it in short]
+        return [*told, f"end {len(short)} of {len(whole)}"]
+
+    def _rough(self, tolerance: tuple[int, int], time: int, asked: bytes) -> list[str]:
+        query = Query(asked)
+        counts = {document: Counter() for document in self.documents if self._alive(document, time).counts is not None}
+        for key in query.weights:
+            for it in near_postings(self.postings(key), tolerance):
+                if it.start <= time < it.end:
+                    counts[it.document][key] = it.frequency
+        scores = {document: query.score(held) for document, held in counts.items()}
+        rows = sorted((-score, document) for document, score in scores.items() if score is not None)
+        near = [f"near {document} {-score}" for score, document in rows]
+        return [*near, f"end {len(near)} read {self._read(query, 0, FOREVER)}"]
 
     def _between(self, start: int, end: int, asked: bytes) -> list[str]:
         query = Query(asked)

@@ -36,6 +36,25 @@ def stretches(changes: Iterable[tuple[int, T | None]], start: int, end: int) -> 
     return found
 
 
+def near_postings(postings: list[Posting], tolerance: tuple[int, int]) -> list[Posting]:
+    """The longest-first approximation of a list: each posting is as long as it can be, and has the least frequency that is near all
+    that it stands for. (The frequencies near one are those that differ from it by at most its part, rounded down.)"""
+    part, whole = tolerance
+    short: list[Posting] = []
+    greatest = 0
+    for it in postings:
+        least, most = it.frequency - it.frequency * part // whole, it.frequency + it.frequency * part // whole
+        if short and (short[-1].document, short[-1].end) == (it.document, it.start):
+            both = max(short[-1].frequency, least), min(greatest, most)
+            if both[0] <= both[1]:
+                short[-1] = Posting(it.document, both[0], short[-1].start, it.end)
+                greatest = both[1]
+                continue
+        short.append(Posting(it.document, least, it.start, it.end))
+        greatest = most
+    return short
+
+
 class Line:
     """A word's list up to a horizon, as a plan sees it. Its spans are pairs of times."""
 

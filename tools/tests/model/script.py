@@ -112,6 +112,14 @@ def factor_of(word: bytes) -> tuple[int, int]:
     return factor
 
 
+def tolerance_of(word: bytes) -> tuple[int, int]:
+    part, _, whole = word.partition(b"/")
+    tolerance = number_of([part], 1 << 32), number_of([whole], 1 << 32)
+    if not tolerance[0] < tolerance[1]:
+        raise NoCommand
+    return tolerance
+
+
 def query_behind(line: bytes, count: int) -> bytes:
     """What stands behind so many words, to the last byte that isn't a space."""
     rest = line.strip(b" ")

@@ -45,6 +45,35 @@ fn a_query_asks_for_the_pages_of_each_planned_word(rt: HostRuntime) -> Result<()
     expect_questions(alloc, &disk, &[&steps])
 }
 
+// A rough answer asks for the pages of all segments, at whatever time, and an approximation for none.
+#[test]
+fn a_rough_answer_asks_for_all_pages_of_its_words(rt: HostRuntime) -> Result<(), RowError> {
+    let alloc = rt.alloc();
+    let disk = first_disk(alloc)?;
+    let steps = [
+        step_of(
+            b"approx v 0/1\n",
+            b"approx 1 10 40 1\napprox 2 20 30 1\nend 2 of 2\n",
+            0,
+        ),
+        find_25(22),
+        step_of(b"rough 1/4 15 v or w\n", b"near 1 1\nend 1 read 4\n", 36),
+        step_of(b"rough 1/4 5 v v\n", b"end 0 read 4\n", 0),
+        find_35(0),
+    ];
+    expect_questions(alloc, &disk, &[&steps])?;
+    let flat = flat_disk(alloc)?;
+    let steps = [
+        step_of(
+            b"rough 0/1 25 v\n",
+            b"near 1 1\nnear 2 1\nend 2 read 4\n",
+            96,
+        ),
+        find_15(0),
+    ];
+    expect_questions(alloc, &flat, &[&steps])
+}
+
 /// Before the first cut and from the horizon on, and of another word.
 const OUTSIDE: Step<'static> = Step {
     script: b"find 5 v\nfind 40 v\nbetween 40 50 v\nfind 15 w\n",

@@ -53,6 +53,25 @@ fn a_changed_byte_is_told_behind_answers_from_other_pages(rt: HostRuntime) -> Re
     expect_damaged(alloc, &disk, &steps)
 }
 
+// A rough answer reads all sublists, so it ends there at any time; an approximation reads none.
+#[test]
+fn a_changed_byte_is_told_where_all_segments_are_read(rt: HostRuntime) -> Result<(), RowError> {
+    let alloc = rt.alloc();
+    let disk = changed_disk(alloc)?;
+    let approximation = step_of(
+        b"approx v 0/1\n",
+        b"approx 1 10 40 1\napprox 2 20 30 1\nend 2 of 2\n",
+        0,
+    );
+    let refused = step_of(b"rough 1/4 35 v or\n", b"no 11 BadQuery 4\n", 0);
+    let ends = step_of(b"rough 1/4 35 v\nfind 25 v\n", b"", 18);
+    expect_damaged(
+        alloc,
+        &disk,
+        &[find_25(22), find_35(18), approximation, refused, ends],
+    )
+}
+
 // What is damaged is the first sublist that is read.
 #[test]
 fn a_changed_byte_is_told_in_front_of_pages_that_are_kept(rt: HostRuntime) -> Result<(), RowError> {

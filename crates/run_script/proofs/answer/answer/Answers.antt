@@ -18,10 +18,10 @@ pub returns-in-Best-clause-outcome : goal.returns-in-Best-clause-outcome
 returns-in-Best-clause-outcome g c = λ tells s in_step. rw (c.in-Command.is, c.in-Best.is) (refused_by s (items.Command (plain.Best _ _ _)) refusals.Line _ _ _ _ (refl, refl) in_step c.refuse-in-Best.ensures.goes_on c.refuse-in-Best.ensures.reply)
 
 pub returns-in-Approx-clause-outcome : goal.returns-in-Approx-clause-outcome
-returns-in-Approx-clause-outcome g c = λ tells s in_step. rw (c.in-Command.is, c.in-Approx.is) (refused_by s (items.Command (plain.Approx _ _)) refusals.Line _ _ _ _ (refl, refl) in_step c.refuse-in-Approx.ensures.goes_on c.refuse-in-Approx.ensures.reply)
+returns-in-Approx-clause-outcome g c = λ tells s in_step. rw (c.in-Command.is, c.in-Approx.is) (answers_by s _ _ _ _ _ _ _ (c.approx-result.ensures.by_reads _ s in_step) c.write_approximated.ensures.writes)
 
 pub returns-in-Rough-clause-outcome : goal.returns-in-Rough-clause-outcome
-returns-in-Rough-clause-outcome g c = λ tells s in_step. rw (c.in-Command.is, c.in-Rough.is) (refused_by s (items.Command (plain.Rough _ _ _)) refusals.Line _ _ _ _ (refl, refl) in_step c.refuse-in-Rough.ensures.goes_on c.refuse-in-Rough.ensures.reply)
+returns-in-Rough-clause-outcome g c = λ tells s in_step. rw (c.in-Command.is, c.in-Rough.is) (answers_by s _ _ _ _ _ _ _ (c.rough-result.ensures.by_reads tells s in_step) c.write_answer-in-Rough.ensures.writes)
 
 pub returns-clause-outcome : goal.returns-clause-outcome
 returns-clause-outcome g c = λ tells s in_step. rw (c.in-Command.is, c.in-Share.is) (refused_by s (items.Command (plain.Share _ _)) refusals.Line _ _ _ _ (refl, refl) in_step c.refuse-in-Share.ensures.goes_on c.refuse-in-Share.ensures.reply)
