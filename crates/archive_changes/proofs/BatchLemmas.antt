@@ -20,7 +20,7 @@ use Rattle.model_archive.specs.Steps.{Reply, Accepted, Cause, act_of, batch_caus
 use Rattle.model_archive.proofs.HistoryLemmas.{end_of-push}
 use Rattle.model_archive.proofs.RefusalLemmas.{when_false, when_true}
 use Rattle.archive_entries.specs.Batches.{IsNextBatch, IsPreparedBatch}
-use Rattle.archive_entries.specs.declared.batching.NextAct.{NextAct}
+use Rattle.archive_entries.specs.declared.batching.PreparedBatch.{PreparedBatch}
 use Rattle.archive_entries.specs.declared.error.BatchDeclined.{BatchDeclined}
 use Rattle.archive_entries.specs.declared.error.BatchDeclined.TheVariants as declines
 use Rattle.archive_hand.specs.Adding.{IsDone, IsSpentBut}
@@ -53,21 +53,21 @@ same_cause : (a b : Refusal) (i j : Option ℕ) → ◌≡◌ {A = Result ℕ Ba
 same_cause a b i j is = let why : a ≡ b = cc in let index : i ≡ j = cc in cc
 
 -- what is known of a batch that was made, or for which there was no room
-pub adds_batch : (r : Result ℕ ChangeError) (a b : ArchiveState) (h : History) (batch : List Act) (cause : Option Cause) (acts : List NextAct) (body : List ℕ)
-    → StandsFor a h → IsNextBatch h batch acts body → cause ≡ for_room h (Batch batch)
-    → ((why : Refusal) → r ≡ Err (changes.Refused why) → (why ≡ Full Journal (limit_of Journal)) × (limit_of Journal < a.end + 5 + length body))
-    → (IsOk r ⊎ (r ≡ Err changes.Failed) → a.end + 5 + length body ≤ limit_of Journal)
+pub adds_batch : (r : Result ℕ ChangeError) (a b : ArchiveState) (h : History) (batch : List Act) (cause : Option Cause) (p : PreparedBatch)
+    → StandsFor a h → IsNextBatch h batch p → cause ≡ for_room h (Batch batch)
+    → ((why : Refusal) → r ≡ Err (changes.Refused why) → (why ≡ Full Journal (limit_of Journal)) × (limit_of Journal < a.end + 5 + length p.body.items))
+    → (IsOk r ⊎ (r ≡ Err changes.Failed) → a.end + 5 + length p.body.items ≤ limit_of Journal)
     → IfOk r (λ n. StandsFor b (h ++ Batch batch ∷ []) × (n ≡ length h + 1)) → AddsAll h (Batch batch) cause (as_whole r) b
-adds_batch r a b h batch cause acts body stands next cause_is full room made = go r full room made
+adds_batch r a b h batch cause p stands next cause_is full room made = go r full room made
   where
-    long : end_of (h ++ Batch batch ∷ []) ≡ a.end + 5 + length body
+    long : end_of (h ++ Batch batch ∷ []) ≡ a.end + 5 + length p.body.items
     long = omega (arith, stands.end_is, end_of-push h (Batch batch), ap length next.spelled)
 
-    fits : a.end + 5 + length body ≤ limit_of Journal → cause ≡ None
+    fits : a.end + 5 + length p.body.items ≤ limit_of Journal → cause ≡ None
     fits within = cause_is ∙ cause_fits h (Batch batch) (omega (arith, within, long))
 
-    go : (r : Result ℕ ChangeError) → ((why : Refusal) → r ≡ Err (changes.Refused why) → (why ≡ Full Journal (limit_of Journal)) × (limit_of Journal < a.end + 5 + length body))
-        → (IsOk r ⊎ (r ≡ Err changes.Failed) → a.end + 5 + length body ≤ limit_of Journal)
+    go : (r : Result ℕ ChangeError) → ((why : Refusal) → r ≡ Err (changes.Refused why) → (why ≡ Full Journal (limit_of Journal)) × (limit_of Journal < a.end + 5 + length p.body.items))
+        → (IsOk r ⊎ (r ≡ Err changes.Failed) → a.end + 5 + length p.body.items ≤ limit_of Journal)
         → IfOk r (λ n. StandsFor b (h ++ Batch batch ∷ []) × (n ≡ length h + 1)) → AddsAll h (Batch batch) cause (as_whole r) b
     go (Ok n) full room made = record { refused = λ why index is. absurd cc; allowed = λ is. fits (room (inl refl)); stands = made }
     go (Err (changes.Refused because)) full room made = record {

@@ -22,7 +22,7 @@ returns-in-Ok-clause-adds g c = λ h stands.
     let same = c.batch.ensures.same in
     let (next, cause) = c.in-Ok.ensures.prepared h stands in
     let made = rw same at c.commit_batch.ensures.stands in
-    rw c.for_whole.ensures (adds_batch c.commit_batch.result c.args.archive.now c.commit_batch.new.self h (flat_map act_of c.args.items.now) (batch_cause h c.args.items.now) c.in-Ok.prepared.acts.items c.in-Ok.prepared.body.items stands next cause
+    rw c.for_whole.ensures (adds_batch c.commit_batch.result c.args.archive.now c.commit_batch.new.self h (flat_map act_of c.args.items.now) (batch_cause h c.args.items.now) c.in-Ok.prepared stands next cause
     (rw same at c.commit_batch.ensures.refused) (rw same at c.commit_batch.ensures.allowed) (made h (flat_map act_of c.args.items.now) stands next))
 
 pub returns-in-Ok-clause-by_reads : goal.returns-in-Ok-clause-by_reads
