@@ -128,7 +128,8 @@ StoreStep old (items.Command (commands.Plan word kind fraction)) reply new = Cha
 StoreStep old (items.Command (commands.Find at expr)) reply new = Answers (MakesAt old at) old at.seconds (at.seconds + 1) expr reply new
 StoreStep old (items.Command (commands.Top count at expr)) reply new = Answers (MakesTop old count at) old at.seconds
     (at.seconds + 1) expr reply new
-StoreStep old (items.Command (commands.Rough tolerance at expr)) reply new = Answers (MakesRough old tolerance at) old 0 (2 ^ 40) expr reply new
+StoreStep old (items.Command (commands.Rough tolerance at expr)) reply new =
+    Answers (MakesRough old tolerance at) old 0 (2 ^ 40) expr reply new
 StoreStep old (items.Command (commands.Approx word tolerance)) reply new = (new ≡ old) × Approximates old.history word tolerance reply
 StoreStep old (items.Command (commands.Between span expr)) reply new = Answers (MakesOver old span) old span.from span.to expr reply new
 StoreStep old (items.Command (commands.Show doc at)) reply new = ReadsOn old new × (reply ≡ Version (text_at old.history doc at.seconds))
@@ -141,8 +142,8 @@ StoreStep old other reply new = (new ≡ old) × (reply ≡ Refused refusals.Lin
 abbrev pub IsSameStore : Store → Store → Type 0
 IsSameStore old new = (new.history ≡ old.history) × (new.pages ≡ old.pages)
 
--- The item asks what is found, at a time, which is a window up to the next one, or over a window, or approximately, for which all times are read; and
--- this is so of the window's bounds and the text.
+-- The item asks what is found, at a time, which is a window up to the next one, or over a window, or approximately, for which all times
+-- are read; and this is so of the window's bounds and the text.
 abbrev pub AsksOver : (ℕ → ℕ → List ℕ → Type 0) → Item → Type 0
 AsksOver P (items.Command (commands.Find at expr)) = P at.seconds (at.seconds + 1) expr
 AsksOver P (items.Command (commands.Top count at expr)) = P at.seconds (at.seconds + 1) expr

@@ -1,5 +1,6 @@
-//! What an open archive is asked: what a query finds at a time, all of it, the first rows or approximately, and over a window, the text of a
-//! version, plans that are proposed and certified, and whether all is sound.
+//! What an open archive is asked: what a query finds at a time, all of it, the first rows or approximately,
+//! and over a window, the text of a version, lists within a tolerance, plans that are proposed and certified,
+//! and whether all is sound.
 //!
 //! A question changes nothing but which pages an archive keeps, and these go on being what reads
 //! give. An answer is made from the lists that are chosen, by what reads of Pages give; in step with

@@ -28,7 +28,8 @@ RoughIsNear =
 -- The same over any frequencies: where those of a query's words are near, the same texts match, and scores are near.
 abbrev pub NearByFrequencies : Type 0
 NearByFrequencies =
-    (tolerance : Tolerance) (query : Query) (often exact : List ℕ → ℕ) → All (λ word. IsNear tolerance (often word) (exact word)) (words_of query)
+    (tolerance : Tolerance) (query : Query) (often exact : List ℕ → ℕ)
+    → All (λ word. IsNear tolerance (often word) (exact word)) (words_of query)
     → (matches query often ≡ matches query exact) × IsNear tolerance (score query often) (score query exact)
 
 -- What is made approximately from pages that hold the live plans is the rough answer, and costs what it should.

@@ -19,8 +19,8 @@ use Rattle.model_archive.specs.Chosen.{AreChosen}
 abbrev pub IsShortOf : History → Tolerance → List ℕ → List Posting → Type 0
 IsShortOf history tolerance word short = (whole : List Posting) × IsWordList history word whole × IsLongestFirst tolerance whole short
 
--- The answer to a query at a time, approximately: the documents alive are the history's, and how often they have a word is told by the longest-first
--- approximation of the word's whole list.
+-- The answer to a query at a time, approximately: the documents alive are the history's, and how often they have a word is told by the
+-- longest-first approximation of the word's whole list.
 pub record IsRoughAnswer (history : History) (tolerance : Tolerance) (t : ℕ) (query : Query) (rows : List Row) : Type 0 where
   pub lists : List ℕ → List Posting
   pub each : All (λ word. IsShortOf history tolerance word (lists word)) (words_of query)
@@ -32,8 +32,8 @@ pub record IsRoughAnswer (history : History) (tolerance : Tolerance) (t : ℕ) (
 abbrev pub IsShortPart : Tolerance → Part → Part → Type 0
 IsShortPart tolerance part short = IsLongestFirst tolerance part.list.items short.list.items
 
--- The answer to a query at a time, approximately: the documents alive are the history's, and how often they have a word is told by the longest-first
--- approximation of what is chosen of its list over all times.
+-- The answer to a query at a time, approximately: the documents alive are the history's, and how often they have a word is told by the
+-- longest-first approximation of what is chosen of its list over all times.
 pub record IsMadeRough (history : History) (pages : List ℕ) (tolerance : Tolerance) (t : ℕ) (query : Query) (rows : List Row)
     (read : ℕ) : Type 0 where
   pub parts : List Part
