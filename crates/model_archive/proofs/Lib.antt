@@ -16,3 +16,6 @@ mod BatchOutcomes
 pub mod OutcomeLemmas
 mod BoundLemmas
 pub mod ChosenLemmas
+pub mod SheetLemmas
+pub mod BestLemmas
+pub mod HeldBestLemmas
