@@ -7,3 +7,4 @@ mod PlanLemmas
 mod LiveLemmas
 mod ChosenLemmas
 mod CacheLemmas
+mod BestLemmas

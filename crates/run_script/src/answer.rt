@@ -2,7 +2,7 @@
 ghost use Rattle.std.specs.Prelude.{◌≡◌, ◌⊎◌, Ok, OnOk, IsOk, IsErrOf};
 ghost use Rattle.machine_model.specs.Causes.{Rose};
 ghost use Rattle.model_archive.specs.Replies.{reply_text};
-ghost use Rattle.model_archive.specs.Steps.{Found, Refused, Reply, Spanned};
+ghost use Rattle.model_archive.specs.Steps.{Found, FoundBest, Refused, Reply, Spanned};
 ghost use Rattle.archive_hand.specs.States.{AreInStepBy};
 ghost use Rattle.archive_hand.specs.Stored.{Store, TellsNoEntry};
 ghost use Rattle.archive_hand.specs.Adding.{IsDone};
@@ -18,7 +18,9 @@ use archive_changes::{BatchError, batch, delete, mark_format, plan};
 use archive_check::VerifyError;
 use archive_entries::{Declined, ReadError};
 use archive_hand::{Archive, ChangeError};
-use archive_questions::{AskError, between, certificate, find, propose, show, top, verify};
+use archive_questions::{
+    AskError, Best, best, between, certificate, find, propose, show, top, verify,
+};
 use archive_replies::ReplyPage;
 use base_commands::{Command, Item, MOST_TEXT_BYTES, Text};
 use base_types::{DocId, Time};
@@ -70,6 +72,10 @@ pub(crate) fn answer<D: Disk>(
             let result = top(alloc, disk, archive, count, at, &expr);
             write_answer(page, result)
         }
+        Command::Best { count, at, expr } => {
+            let result = best(alloc, disk, archive, count, at, &expr);
+            write_answer(page, result)
+        }
         Command::Between { span, expr } => {
             let result = between(alloc, disk, archive, span, &expr);
             write_answer(page, result)
@@ -99,7 +105,6 @@ pub(crate) fn answer<D: Disk>(
             write_verified(page, result)
         }
         Command::Begin { .. } => refuse(page, Refusal::Line),
-        Command::Best { .. } => refuse(page, Refusal::Line),
         Command::Approx { .. } => refuse(page, Refusal::Line),
         Command::Rough { .. } => refuse(page, Refusal::Line),
         Command::Share { .. } => refuse(page, Refusal::Line),
@@ -241,6 +246,14 @@ impl Written for Answer {
 
     fn write(&self, page: &mut ReplyPage) -> Result<(), AllocError> {
         page.found(&self.rows, self.read)
+    }
+}
+
+impl Written for BestAnswer {
+    ghost reply = { λ best. FoundBest best.rows.items best.read best.opened best.blocks };
+
+    fn write(&self, page: &mut ReplyPage) -> Result<(), AllocError> {
+        page.found_best(&self.rows, self.read, self.opened, self.blocks)
     }
 }
 
