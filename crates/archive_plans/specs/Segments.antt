@@ -1,5 +1,5 @@
 -- A segment of a plan, as it is found by a time.
-use Rattle.std.specs.Prelude.{◌≡◌, ℕ, ◌<◌, ◌≤◌, true, false, List, [], ◌∷◌, Bool, Option, Some, None}
+use Rattle.std.specs.Prelude.{◌≡◌, ℕ, [], ◌∷◌, Bool, Option, Some, None}
 use Rattle.journal_entries.specs.declared.plan.PlanEntry.{PlanEntry}
 use Rattle.pages_sublists.specs.Gathering.{Chosen}
 use Rattle.archive_plans.specs.declared.segment.Segment.{Segment}

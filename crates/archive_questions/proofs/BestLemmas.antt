@@ -46,7 +46,7 @@ use Rattle.model_archive.proofs.HeldBestLemmas.{AreFramesOf, held_chosen, held_f
 use Rattle.archive_plans.specs.Framing.{AreFramesAt, IsFramedAt, IsUnframedAt, chosen_at}
 use Rattle.archive_plans.specs.declared.framing.SegmentFrames.{SegmentFrames}
 use Rattle.archive_plans.proofs.SegmentLemmas.{few}
-use Rattle.archive_questions.specs.Bests.{AreHeld, IsDamagedAmong}
+use Rattle.archive_questions.specs.Bests.{AreBlocksAt, AreHeld, IsDamagedAmong, IsDamagedOne, IsHeldOne}
 
 -- ---- the segment that has the time
 
@@ -107,11 +107,6 @@ heads-count list heads is = ap (sum_by (λ (h : BlockHead). h.count)) is ∙ cou
 
 -- ---- a word whose plan is in blocks
 
--- what is held of its place, if there is one: its blocks, with the segment and the horizon
-abbrev pub AreBlocksAt : PlanEntry → Option SegmentFrames → Option HeldBlocks → Type 0
-AreBlocksAt plan None blocks = blocks ≡ None
-AreBlocksAt plan (Some s) blocks = (b : HeldBlocks) × (blocks ≡ Some b) × (b.frames ≡ s.frames) × (b.page ≡ s.page) × (b.span ≡ s.span) × (b.horizon.seconds ≡ plan.horizon.seconds)
-
 blocks-of : (stored : List Posting) (b : HeldBlocks) (sheet : Sheet) → IsList stored → AreFramesOf stored b.frames → sheet.heads ≡ map header (in_pieces stored) → sheet.blocks ≡ in_pieces stored → AreBlocksOf (Some b) sheet
 blocks-of stored b sheet is frames heads blocks = (
   frames.heads ∙ sym heads,
@@ -124,14 +119,8 @@ blocks-of stored b sheet is frames heads blocks = (
 )
 
 -- what is held of such a word is what there is of it
-pub record IsHeldOne (h : History) (t : ℕ) (word : List ℕ) (w : HeldWord) (read : ℕ) : Type 0 where
-  pub sheet : Sheet
-  pub sheet_is : IsSheetOf h word (plan_of h word) t sheet
-  pub held_as : IsHeldAs w sheet
-  pub read_is : IsReadOf h word (plan_of h word) t (t + 1) read
-
 module _ (h : History) (pages : List ℕ) (t : ℕ) (word : List ℕ) (plan : PlanEntry) (loads : IsLoadable h) (held_all : HoldsPlans h pages) (live : plan_of h word ≡ Some plan) where
-  pub in-blocks : (s : Option SegmentFrames) (w : HeldWord) (tail : List Posting) (read : ℕ) → plan.layout ≡ Blocks → IsFramedAt pages plan t s → IsTailFor h word (t + 1) plan.horizon.seconds tail → AreBlocksAt plan s w.blocks
+  pub in-blocks : (s : Option SegmentFrames) (w : HeldWord) (tail : List Posting) (read : ℕ) → plan.layout ≡ Blocks → IsFramedAt pages plan t s → IsTailFor h word (t + 1) plan.horizon.seconds tail → AreBlocksAt plan.horizon.seconds s w.blocks
       → w.flat.items ≡ rows_at t tail → read ≡ sum_by (λ (x : BlockHead). x.count) (heads_in w.blocks) + length tail → IsHeldOne h t word w read
   in-blocks s w tail read blocks framed is_tail made flat sum = go s framed made
     where
@@ -156,7 +145,7 @@ module _ (h : History) (pages : List ℕ) (t : ℕ) (word : List ℕ) (plan : Pl
       read_of_word : read ≡ stored_size t (t + 1) plan.horizon.seconds held.list (seconds plan.cuts) + length tail → IsReadOf h word (plan_of h word) t (t + 1) read
       read_of_word e = subst (λ (o : Option PlanEntry). IsReadOf h word o t (t + 1) read) (sym live) (held.list, tail, held.list_is, is_tail, e)
 
-      go : (s : Option SegmentFrames) → IsFramedAt pages plan t s → AreBlocksAt plan s w.blocks → IsHeldOne h t word w read
+      go : (s : Option SegmentFrames) → IsFramedAt pages plan t s → AreBlocksAt plan.horizon.seconds s w.blocks → IsHeldOne h t word w read
       go None none made =
           let at = at-none t plan.horizon.seconds true held.list (seconds plan.cuts) plan.places long none in
           let empty : sheet ≡ sheet_laid Blocks t [] tail = laid ∙ ap (λ (xs : List Posting). sheet_laid Blocks t xs tail) at.0 in
@@ -190,12 +179,12 @@ module _ (h : History) (pages : List ℕ) (t : ℕ) (word : List ℕ) (plan : Pl
           }
 
 -- a block that is bad is damaged of what is read
-pub bad-at : (pages : List ℕ) (plan : PlanEntry) (t : ℕ) (s : Option SegmentFrames) (blocks : Option HeldBlocks) (block : ℕ) (damage : Damage) → plan.layout ≡ Blocks → IsFramedAt pages plan t s → AreBlocksAt plan s blocks
+pub bad-at : (pages : List ℕ) (plan : PlanEntry) (t : ℕ) (s : Option SegmentFrames) (blocks : Option HeldBlocks) (block : ℕ) (damage : Damage) → plan.layout ≡ Blocks → IsFramedAt pages plan t s → AreBlocksAt plan.horizon.seconds s blocks
     → block < length (heads_in blocks) → IsBadBlock blocks block damage → IsDamagedAt pages plan plan.layout t damage
 bad-at pages plan t s blocks block damage in_blocks framed made l bad =
     subst (λ (x : Layout). IsDamagedAt pages plan x t damage) (sym in_blocks) (go s framed made)
   where
-    go : (s : Option SegmentFrames) → IsFramedAt pages plan t s → AreBlocksAt plan s blocks → IsDamagedAt pages plan Blocks t damage
+    go : (s : Option SegmentFrames) → IsFramedAt pages plan t s → AreBlocksAt plan.horizon.seconds s blocks → IsDamagedAt pages plan Blocks t damage
     go None none made = absurd (subst (λ (o : Option HeldBlocks). IsBadBlock o block damage) made bad)
     go (Some s) (c, one, at_c) (b, made, frames, page, span, horizon) =
         let among : Contains (chosen_at plan t) c = subst (λ (cs : List Chosen). Contains cs c) (sym one) (0, omega arith, refl) in
@@ -323,12 +312,7 @@ held-more h t words held read one word w are is = record {
 pub none-held : (h : History) (t : ℕ) → AreHeld h t [] [] 0
 none-held h t = record { sheets = []; sheets_are = tt; held_as = tt; read_is = refl }
 
--- this is damaged of one word, and so of some that have it
-pub record IsDamagedOne (h : History) (pages : List ℕ) (t : ℕ) (word : List ℕ) (damage : Damage) : Type 0 where
-  pub plan : PlanEntry
-  pub live : plan_of h word ≡ Some plan
-  pub damaged : IsDamagedAt pages plan plan.layout t damage
-
+-- what is damaged of one word is so of some that have it
 pub damaged-among : (h : History) (pages : List ℕ) (t : ℕ) (words : List (List ℕ)) (word : List ℕ) (damage : Damage) → Contains words word → IsDamagedOne h pages t word damage → IsDamagedAmong h pages t words damage
 damaged-among h pages t words word damage among one = record { word = word; among = among; plan = one.plan; live = one.live; damaged = one.damaged }
 

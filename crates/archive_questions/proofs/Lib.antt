@@ -8,3 +8,4 @@ mod LiveLemmas
 mod ChosenLemmas
 mod CacheLemmas
 mod BestLemmas
+mod BestMadeLemmas

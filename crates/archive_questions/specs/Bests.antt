@@ -1,5 +1,5 @@
 -- What holds after the first rows by blocks were asked for, and of what is held of words for them.
-use Rattle.std.specs.Prelude.{◌≡◌, ℕ, ◌+◌, nat_lt, List, take, Contains, Some, Result, Ok, Err, IfOk, OnOk}
+use Rattle.std.specs.Prelude.{◌≡◌, ℕ, ◌+◌, ◌<◌, nat_lt, List, length, take, Contains, Option, Some, None, Result, Ok, Err, IfOk, OnOk}
 use Rattle.std.specs.List.{AllZip}
 use Rattle.machine_model.specs.Calls.{OnlyReads}
 use Rattle.machine_model.specs.Causes.{Rose}
@@ -13,20 +13,23 @@ use Rattle.query_lang.specs.Meaning.{matches, score, words_of}
 use Rattle.query_eval.specs.declared.answer.Row.{Row}
 use Rattle.query_top.specs.Sheets.{Sheet}
 use Rattle.query_top.specs.declared.ranking.Row.{Row as TopRow}
-use Rattle.query_best.specs.Held.{IsBadOf, IsHeldAs}
+use Rattle.query_best.specs.Held.{IsBadBlock, IsBadOf, IsHeldAs, heads_in}
+use Rattle.query_best.specs.declared.held.HeldBlocks.{HeldBlocks}
 use Rattle.query_best.specs.declared.held.HeldWord.{HeldWord}
 use Rattle.model_archive.specs.Answers.{IsAnswerAt}
-use Rattle.model_archive.specs.Bests.{AreFoundByBlocks, AreSheets, IsDamagedAt}
-use Rattle.model_archive.specs.Chosen.{IsReadFor, pieces_for}
+use Rattle.model_archive.specs.Bests.{AreFoundByBlocks, AreSheets, IsDamagedAt, IsSheetOf}
+use Rattle.model_archive.specs.Chosen.{IsReadFor, IsReadOf, pieces_chosen, pieces_for}
 use Rattle.model_archive.specs.Histories.{History}
 use Rattle.model_archive.specs.Holding.{HoldsPlans}
 use Rattle.model_archive.specs.Plans.{plan_of}
+use Rattle.archive_plans.specs.declared.framing.SegmentFrames.{SegmentFrames}
 use Rattle.archive_hand.specs.Asking.{HasAsked}
 use Rattle.archive_hand.specs.States.{ArchiveState, CacheStands, IsSameButCache, StandsFor}
 use Rattle.archive_questions.specs.declared.besting.BestAnswer.{BestAnswer}
 use Rattle.archive_questions.specs.declared.error.AskError.{AskError}
 use Rattle.archive_questions.specs.declared.error.AskError.TheVariants as asks
 use Rattle.archive_questions.specs.declared.holding.Held.{Held}
+use Rattle.archive_questions.specs.declared.holding.HeldOne.{HeldOne}
 
 -- a row where blocks are gone through, as a row of an answer
 abbrev pub eval_row : TopRow → Row
@@ -58,6 +61,38 @@ pub record IsDamagedAmong (history : History) (pages : List ℕ) (t : ℕ) (word
   pub plan : PlanEntry
   pub live : plan_of history word ≡ Some plan
   pub damaged : IsDamagedAt pages plan plan.layout t damage
+
+-- What is held of the segment that has a time, if there is one: its blocks, with the segment and the horizon.
+abbrev pub AreBlocksAt : ℕ → Option SegmentFrames → Option HeldBlocks → Type 0
+AreBlocksAt horizon None blocks = blocks ≡ None
+AreBlocksAt horizon (Some s) blocks = (b : HeldBlocks) × (blocks ≡ Some b) × (b.frames ≡ s.frames) × (b.page ≡ s.page) × (b.span ≡ s.span)
+    × (b.horizon.seconds ≡ horizon)
+
+-- what is held of a word is what there is of it, and so many postings are read for it
+pub record IsHeldOne (history : History) (t : ℕ) (word : List ℕ) (held : HeldWord) (read : ℕ) : Type 0 where
+  pub sheet : Sheet
+  pub sheet_is : IsSheetOf history word (plan_of history word) t sheet
+  pub held_as : IsHeldAs held sheet
+  pub read_is : IsReadOf history word (plan_of history word) t (t + 1) read
+
+-- this is damaged of what is read at a time for a word
+pub record IsDamagedOne (history : History) (pages : List ℕ) (t : ℕ) (word : List ℕ) (damage : Damage) : Type 0 where
+  pub plan : PlanEntry
+  pub live : plan_of history word ≡ Some plan
+  pub damaged : IsDamagedAt pages plan plan.layout t damage
+
+-- What was had of a word at a time, as of some words below.
+pub record HoldsOne (tells : Type 0) (t : ℕ) (word : List ℕ) (result : Result HeldOne FetchError) (d e : DiskState)
+    (old new : ArchiveState) : Type 0 where
+  pub held : tells → (h : History) → StandsFor old h → CacheStands d old → HoldsPlans h d.holds.pages
+      → IfOk result (λ x. IsHeldOne h t word x.word x.read)
+  pub bad : tells → (h : History) → StandsFor old h → CacheStands d old
+      → IfOk result (λ x. (block : ℕ) (damage : Damage) → block < length (heads_in x.word.blocks) → IsBadBlock x.word.blocks block damage
+      → IsDamagedOne h d.holds.pages t word damage)
+  pub asked : tells → (h : History) → StandsFor old h → CacheStands d old
+      → OnOk result (HasAsked (pieces_chosen d.holds.pages (plan_of h word) t (t + 1)) old.shelf.cache new.shelf.cache d e)
+  pub damaged : tells → (h : History) → StandsFor old h → CacheStands d old → (damage : Damage) → result ≡ Err (fetches.Damaged damage)
+      → IsDamagedOne h d.holds.pages t word damage
 
 -- what is held of some words at a time: their sheets, and how many postings are read for them
 pub record AreHeld (history : History) (t : ℕ) (words : List (List ℕ)) (held : List HeldWord) (read : ℕ) : Type 0 where

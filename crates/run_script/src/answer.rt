@@ -19,7 +19,7 @@ use archive_check::VerifyError;
 use archive_entries::{Declined, ReadError};
 use archive_hand::{Archive, ChangeError};
 use archive_questions::{
-    AskError, Best, best, between, certificate, find, propose, show, top, verify,
+    AskError, BestAnswer, best, between, certificate, find, propose, show, top, verify,
 };
 use archive_replies::ReplyPage;
 use base_commands::{Command, Item, MOST_TEXT_BYTES, Text};
