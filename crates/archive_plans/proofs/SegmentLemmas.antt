@@ -1,7 +1,6 @@
 -- The segment of a plan that has a time is the only one.
 use Rattle.std.proofs.Common.{◌≡◌, ◌⊎◌, ℕ, zero, suc, ◌+◌, ◌<◌, ◌≤◌, ◌&&◌, ◌==◌, nat_lt, Bool, true, false, if◌then◌else◌, List, [], ◌∷◌, ◌++◌, length, drop, get_or, slice_index, refl, ap, sym, subst, ◌∙◌, arith, inl, inr}
 use Rattle.std.proofs.lemmas.Bool.Decides.{nat_tests}
-use Rattle.std.proofs.lemmas.List.{drop_all}
 use Rattle.std.specs.List.Sorted.{IsStrictlyIncreasing}
 use Rattle.base_types.specs.declared.time.Time.{Time}
 use Rattle.journal_entries.specs.declared.place.Place.{Place}
@@ -112,15 +111,6 @@ found-here plan t k cuts places f g p d cuts_are places_are front l m from place
     ap (λ (cs : List Time). chosen_from t h cs plan.places 0) (sym cuts_are) ∙ ap (λ (ps : List Place). chosen_from t h cuts ps 0) (sym places_are) ∙ front ∙ one
     ∙ ap (λ (x : ℕ). record { from = f; to = x; place = get_or places k p; first = k == 0 } ∷ []) (sym to)
     ∙ ap (λ (x : Place). record { from = f; to = g; place = x; first = k == 0 } ∷ []) (sym place)
-
--- no segment has it, where all were passed over
-pub found-nowhere : (plan : PlanEntry) (t k : ℕ) (cuts : List Time) (places : List Place) → cuts ≡ plan.cuts → places ≡ plan.places
-    → chosen_from t plan.horizon.seconds cuts places 0 ≡ chosen_from t plan.horizon.seconds cuts places k → length cuts ≤ k → chosen_at plan t ≡ []
-found-nowhere plan t k cuts places cuts_are places_are front l =
-    let h = plan.horizon.seconds in
-    let end : seconds (drop k cuts) ≡ [] = ap seconds (drop_all k cuts l) in
-    ap (λ (cs : List Time). chosen_from t h cs plan.places 0) (sym cuts_are) ∙ ap (λ (ps : List Place). chosen_from t h cuts ps 0) (sym places_are) ∙ front
-    ∙ ap (λ cs. chosen t (t + 1) h (k == 0) cs (drop k places)) end
 
 -- a page of one of the places
 pub place-taken : (places : List Place) (k p : ℕ) (place : Place) → k < length places → place ≡ get_or places k place → IsPageOf place.extent p → IsTaken (extents places) p

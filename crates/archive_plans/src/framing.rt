@@ -1,5 +1,5 @@
 //! The headers of the blocks of a plan's segment.
-ghost use Rattle.std.specs.Prelude.{◌≡◌, ◌+◌, ◌<◌, ◌≤◌, List, length, get_or, All, Some, IfOk, IfErr, OnOk};
+ghost use Rattle.std.specs.Prelude.{◌≡◌, ◌+◌, ◌<◌, length, get_or, Some, IfOk, IfErr, OnOk};
 ghost use Rattle.machine_model.specs.Areas.{replaced};
 ghost use Rattle.machine_model.specs.Calls.{OnlyReads};
 ghost use Rattle.machine_model.specs.Causes.{Rose};

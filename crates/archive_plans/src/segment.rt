@@ -1,5 +1,5 @@
 //! The segment of a plan that has a time.
-ghost use Rattle.std.specs.Prelude.{◌≡◌, ◌<◌, ◌≤◌, ◌+◌, ◌^◌, ◌∷◌, length, drop, get_or, IfSome};
+ghost use Rattle.std.specs.Prelude.{◌≡◌, ◌<◌, ◌≤◌, ◌+◌, ◌^◌, length, drop, get_or, IfSome};
 ghost use Rattle.pages_sublists.specs.Segments.{next_cut, seconds};
 ghost use Rattle.archive_plans.specs.Framing.{AreInTurn};
 ghost use Rattle.archive_plans.specs.Segments.{IsSegmentAt};

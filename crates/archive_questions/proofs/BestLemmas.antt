@@ -1,9 +1,7 @@
 -- What is held of a word at a time is what there is of it, where the pages hold what the live plans need; and what is damaged of it.
-use Rattle.std.proofs.Common.{◌≡◌, ◌⊎◌, ℕ, zero, suc, ◌+◌, ◌*◌, ◌<◌, ◌≤◌, ◌^◌, ◌&&◌, nat_le, nat_lt, Bool, true, false, cond, if◌then◌else◌, List, [], ◌∷◌, ◌++◌, length, map, take, drop, filter, get_or, sum_by, All, Contains, Option, Some, None, Result, Ok, Err, refl, ap, ap₂, sym, subst, ◌∙◌, arith, inl, inr}
-use Rattle.std.specs.List.{AllZip}
-use Rattle.std.specs.List.Sorted.{IsStrictlyIncreasing}
+use Rattle.std.proofs.Common.{◌≡◌, ◌⊎◌, ℕ, zero, suc, ◌+◌, ◌<◌, ◌≤◌, ◌&&◌, nat_lt, Bool, true, false, cond, if◌then◌else◌, List, [], ◌∷◌, ◌++◌, length, map, take, drop, get_or, sum_by, Contains, Option, Some, None, Result, Ok, refl, ap, sym, subst, ◌∙◌, arith, inl, inr}
 use Rattle.std.proofs.lemmas.Bool.Decides.{nat_tests}
-use Rattle.std.proofs.lemmas.List.{append-nil, length-drop, length-map, length-take}
+use Rattle.std.proofs.lemmas.List.{length-drop, length-map, length-take}
 use Rattle.std.proofs.lemmas.List.Elements.{Contains-append_cases, Contains-append_left, Contains-append_right}
 use Rattle.std.proofs.lemmas.List.Sums.{length-filter, sum_by-cons}
 use Rattle.base_types.specs.declared.posting.Posting.{Posting}
@@ -18,7 +16,7 @@ use Rattle.journal_entries.specs.declared.place.Layout.TheVariants.{Flat, Blocks
 use Rattle.journal_entries.specs.declared.place.Place.{Place}
 use Rattle.journal_entries.specs.declared.plan.PlanEntry.{PlanEntry}
 use Rattle.pages_codec.specs.Fields.{Fields, fields}
-use Rattle.pages_codec.specs.Flat.{list_at, spelling}
+use Rattle.pages_codec.specs.Flat.{list_at}
 use Rattle.pages_codec.specs.Blocks.{block_spelling, blocks_at, pieces}
 use Rattle.pages_codec.specs.Frames.{FramesState}
 use Rattle.pages_codec.specs.declared.head.BlockHead.{BlockHead}
@@ -26,7 +24,7 @@ use Rattle.pages_codec.proofs.BlockCodec.{block_codec}
 use Rattle.pages_codec.proofs.FlatLemmas.{flat_codec}
 use Rattle.pages_checked.specs.Layouts.{spelling_in}
 use Rattle.pages_sublists.specs.Framing.{IsFramed}
-use Rattle.pages_sublists.specs.Gathering.{Chosen, Gathers, Joins, bytes_of, chosen, stored_size}
+use Rattle.pages_sublists.specs.Gathering.{Chosen, Gathers, bytes_of, chosen, stored_size}
 use Rattle.pages_sublists.specs.Segments.{EachSegment, HoldsSublist, next_cut, seconds}
 use Rattle.pages_sublists.specs.declared.why.Damage.{Damage}
 use Rattle.query_top.specs.Sheets.{Sheet}
@@ -34,8 +32,7 @@ use Rattle.query_top.proofs.ZipLemmas.{zip-more}
 use Rattle.query_best.specs.Held.{AreBlocksOf, IsBadBlock, IsBadOf, IsHeldAs, heads_in}
 use Rattle.query_best.specs.declared.held.HeldBlocks.{HeldBlocks}
 use Rattle.query_best.specs.declared.held.HeldWord.{HeldWord}
-use Rattle.model_archive.specs.Answers.{IsWordList}
-use Rattle.model_archive.specs.Bests.{AreSheets, IsDamagedAt, IsSheetOf, header, in_pieces, sheet_laid, sublist_at}
+use Rattle.model_archive.specs.Bests.{IsDamagedAt, IsSheetOf, header, in_pieces, sheet_laid, sublist_at}
 use Rattle.model_archive.specs.Chosen.{GathersOf, IsChosenOf, IsReadFor, IsReadOf, IsTailFor}
 use Rattle.model_archive.specs.Histories.{History}
 use Rattle.model_archive.specs.Holding.{HoldsPlans}
@@ -43,7 +40,7 @@ use Rattle.model_archive.specs.Legal.{IsLoadable}
 use Rattle.model_archive.specs.Plans.{plan_of}
 use Rattle.model_archive.proofs.ChosenLemmas.{IsHeld, held_for}
 use Rattle.model_archive.proofs.HeldBestLemmas.{AreFramesOf, held_chosen, held_frames, piece-is, same_all}
-use Rattle.archive_plans.specs.Framing.{AreFramesAt, IsFramedAt, IsUnframedAt, chosen_at}
+use Rattle.archive_plans.specs.Framing.{IsFramedAt, IsUnframedAt, chosen_at}
 use Rattle.archive_plans.specs.declared.framing.SegmentFrames.{SegmentFrames}
 use Rattle.archive_plans.proofs.SegmentLemmas.{few}
 use Rattle.archive_questions.specs.Bests.{AreBlocksAt, AreHeld, IsDamagedAmong, IsDamagedOne, IsHeldOne}

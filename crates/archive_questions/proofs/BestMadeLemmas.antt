@@ -1,5 +1,5 @@
 -- What is found by blocks of what is held of a query's words is the history's, where the query asks for any of them.
-use Rattle.std.proofs.Common.{◌≡◌, ◌⊎◌, ℕ, ◌+◌, ◌<◌, ◌^◌, nat_lt, List, [], ◌∷◌, length, map, take, sum_by, Contains, Option, Some, None, IsSome, refl, ap, sym, subst, ◌∙◌, arith}
+use Rattle.std.proofs.Common.{◌≡◌, ℕ, ◌+◌, ◌<◌, ◌^◌, nat_lt, List, [], ◌∷◌, length, map, take, sum_by, Contains, Option, Some, None, IsSome, refl, ap, sym, subst, ◌∙◌, arith}
 use Rattle.std.specs.List.{AllZip}
 use Rattle.std.proofs.lemmas.List.Sums.{sum_by-cons}
 use Rattle.base_types.specs.declared.ids.DocId.{DocId}
@@ -11,7 +11,7 @@ use Rattle.query_eval.specs.declared.answer.Row.{Row}
 use Rattle.query_eval.proofs.FoundLemmas.{each-answer}
 use Rattle.query_eval.proofs.GivenLemmas.{same_alive}
 use Rattle.query_top.specs.Firsts.{Each}
-use Rattle.query_top.specs.Opening.{HasShown, Opened}
+use Rattle.query_top.specs.Opening.{HasShown}
 use Rattle.query_top.specs.Sheets.{IsSheet, Sheet}
 use Rattle.query_top.specs.Sheets.{score as top_score}
 use Rattle.query_top.specs.declared.ranking.Row.{Row as TopRow}
@@ -19,7 +19,7 @@ use Rattle.query_best.specs.Held.{AreBlocksOf, AreFound, IsHeldAs, heads_in}
 use Rattle.query_best.specs.declared.held.HeldBlocks.{HeldBlocks}
 use Rattle.query_best.specs.declared.held.HeldWord.{HeldWord}
 use Rattle.model_archive.specs.Answers.{IsAnswerAt, frequency_at}
-use Rattle.model_archive.specs.Bests.{AreFoundByBlocks, top_row, weights_in}
+use Rattle.model_archive.specs.Bests.{top_row, weights_in}
 use Rattle.model_archive.specs.Chosen.{IsReadFor}
 use Rattle.model_archive.specs.Histories.{History, changes, text_at}
 use Rattle.model_archive.specs.Legal.{IsLoadable}

@@ -1,5 +1,5 @@
 -- What holds after the first rows by blocks were asked for, and of what is held of words for them.
-use Rattle.std.specs.Prelude.{◌≡◌, ℕ, ◌+◌, ◌<◌, nat_lt, List, length, take, Contains, Option, Some, None, Result, Ok, Err, IfOk, OnOk}
+use Rattle.std.specs.Prelude.{◌≡◌, ℕ, ◌+◌, ◌<◌, nat_lt, List, length, take, Contains, Option, Some, None, Result, Err, IfOk, OnOk}
 use Rattle.std.specs.List.{AllZip}
 use Rattle.machine_model.specs.Calls.{OnlyReads}
 use Rattle.machine_model.specs.Causes.{Rose}

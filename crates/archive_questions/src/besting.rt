@@ -1,10 +1,8 @@
 //! What an archive is asked: the first rows of what a query finds, by the tops of blocks.
-ghost use Rattle.std.specs.Prelude.{◌≡◌, ◌≤◌, ◌+◌, ℕ, List, All, length, map, take, IfOk, IsErrOf};
-ghost use Rattle.machine_model.specs.Causes.{Rose};
+ghost use Rattle.std.specs.Prelude.{◌≡◌, ◌≤◌, All, map, IfOk};
 ghost use Rattle.query_lang.specs.Meaning.{weight, words_of};
 ghost use Rattle.model_archive.specs.Bests.{weights_in};
-ghost use Rattle.model_archive.specs.Histories.{History};
-ghost use Rattle.archive_hand.specs.States.{AreInStepBy, CacheStands, Reaches, StandsFor};
+ghost use Rattle.archive_hand.specs.States.{AreInStepBy, Reaches};
 ghost use Rattle.archive_hand.specs.Stored.{Store};
 ghost use Rattle.archive_hand.specs.Takes.{TakesBy};
 ghost use Rattle.archive_questions.specs.After.{AfterFetching};

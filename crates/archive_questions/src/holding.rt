@@ -1,5 +1,5 @@
 //! What is held of words for the first rows of a query at a time.
-ghost use Rattle.std.specs.Prelude.{◌≡◌, ◌+◌, ℕ, List, Some, None, get_or, length, sum_by, IfOk, IfSome};
+ghost use Rattle.std.specs.Prelude.{◌≡◌, ◌+◌, List, Some, None, get_or, length, sum_by, IfOk, IfSome};
 ghost use Rattle.archive_questions.specs.After.{AfterFetching};
 ghost use Rattle.archive_questions.specs.Bests.{AreBlocksAt, HoldsFor, HoldsOne};
 ghost use Rattle.base_types.specs.declared.posting.Posting.{Posting as PlainPosting};

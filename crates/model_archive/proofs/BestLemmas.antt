@@ -1,49 +1,31 @@
 -- The first rows that are found by blocks: they are the first of the answer; there are such rows, and they differ in how many blocks were opened alone.
-use Rattle.std.proofs.Common.{◌≡◌, ◌⊎◌, ◌↔◌, ℕ, zero, suc, ◌+◌, ◌*◌, ◌<◌, ◌≤◌, ◌^◌, ◌==◌, ◌||◌, nat_lt, Bool, true, false, List, [], ◌∷◌, ◌++◌, length, map, take, sum_by, Contains, Option, Some, None, IsSome, Result, Ok, Err, option_map, unwrap_or, refl, ap, ap₂, sym, subst, ◌∙◌, arith, inl, inr}
+use Rattle.std.proofs.Common.{◌≡◌, ◌⊎◌, ℕ, ◌*◌, ◌<◌, ◌^◌, ◌||◌, nat_lt, Bool, true, false, List, [], ◌∷◌, length, map, take, sum_by, Contains, Option, Some, None, IsSome, option_map, unwrap_or, refl, ap, ap₂, sym, subst, ◌∙◌, arith, inl, inr}
 use Rattle.std.specs.List.{AllZip}
-use Rattle.std.proofs.lemmas.Bool.{cases_lt}
 use Rattle.std.proofs.lemmas.Bool.Decides.{nat_tests, eqb_tells}
 use Rattle.std.proofs.lemmas.List.{length-map, length-take}
 use Rattle.std.proofs.lemmas.List.Sums.{sum_by-cons}
 use Rattle.base_types.specs.declared.ids.DocId.{DocId}
-use Rattle.base_types.specs.declared.posting.Posting.{Posting}
-use Rattle.base_types.specs.declared.time.Time.{Time}
-use Rattle.base_commands.specs.declared.count.BestCount.{BestCount}
-use Rattle.lists_postings.specs.Lists.{EachNext}
-use Rattle.lists_postings.proofs.Clipping.{one_list_of}
 use Rattle.lists_postings.proofs.Elements.{here, later, here-or-later, none}
 use Rattle.lists_postings.proofs.Order.{Heads, next-cons, next-later, next-tail}
-use Rattle.journal_entries.specs.declared.plan.PlanEntry.{PlanEntry}
-use Rattle.pages_sublists.specs.Segments.{seconds}
 use Rattle.text_words.specs.Terms.{occurrences}
-use Rattle.query_lang.specs.Chains.{asks_for_any}
-use Rattle.query_lang.specs.Grammar.{Query, IsRead}
-use Rattle.query_lang.specs.Machine.{read}
+use Rattle.query_lang.specs.Grammar.{Query}
 use Rattle.query_lang.specs.Meaning.{matches, score, weight, words_of}
-use Rattle.query_lang.specs.Tokens.{term_of}
-use Rattle.query_lang.proofs.ChainLaws.{any_scores}
-use Rattle.query_lang.proofs.ReadingLaws.{is_read}
-use Rattle.query_eval.specs.Answers.{IsAnswer, RanksBefore}
+use Rattle.query_eval.specs.Answers.{RanksBefore}
 use Rattle.query_eval.specs.Answers.{AreRanked as AreInTurn}
 use Rattle.query_eval.specs.declared.answer.Row.{Row}
 use Rattle.query_eval.proofs.FirstLemmas.{AllBefore, first-or-behind, one-first, take-from, take-ranked}
-use Rattle.query_eval.proofs.GivenLemmas.{one_answer}
 use Rattle.query_eval.proofs.Ranks.{ranks-trans, same-row}
 use Rattle.query_top.specs.Firsts.{AreFirst, AreRanked, Beats, Each, shows}
-use Rattle.query_top.specs.Opening.{Opened, AreDistinct, HasShown}
-use Rattle.query_top.specs.Sheets.{Sheet, sheet_at}
+use Rattle.query_top.specs.Sheets.{Sheet}
 use Rattle.query_top.specs.Sheets.{score as top_score}
 use Rattle.query_top.specs.declared.ranking.Row.{Row as TopRow}
 use Rattle.query_top.proofs.ShownLemmas.{may_open, shows-row}
 use Rattle.model_archive.specs.declared.refusal.Refusal.TheVariants as refusals
 use Rattle.model_archive.specs.Answers.{IsAnswerAt, frequency_at}
-use Rattle.model_archive.specs.Bests.{AreFoundByBlocks, AreSheets, IsSheetOf, sheet_laid, sublist_at, top_row, weights_in}
-use Rattle.model_archive.specs.Chosen.{IsReadFor, IsTailFor}
-use Rattle.model_archive.specs.Choices.{SameButChosen}
+use Rattle.model_archive.specs.Bests.{AreFoundByBlocks, AreSheets, IsSheetOf, top_row, weights_in}
 use Rattle.model_archive.specs.Histories.{History, text_at}
 use Rattle.model_archive.specs.Legal.{IsLoadable}
 use Rattle.model_archive.specs.Plans.{plan_of}
-use Rattle.model_archive.specs.Steps.{Reply, Refused, FoundBest, Bests, BestsBy, IsRepliedBy}
 use Rattle.model_archive.proofs.SheetLemmas.{sheets_score, sheets_true}
 
 -- ---- rows of one kind and of the other

@@ -1,19 +1,17 @@
 -- Where the pages hold what the live plans need: the headers of a segment's place are those of its sublist's blocks, each block is spelled as its
 -- postings are, and nothing is damaged.
-use Rattle.std.proofs.Common.{◌≡◌, ◌≢◌, ◌⊎◌, ℕ, zero, suc, ◌+◌, ◌-◌, ◌<◌, ◌≤◌, ◌&&◌, nat_le, nat_lt, Bool, true, false, cond, if◌then◌else◌, List, [], ◌∷◌, ◌++◌, length, map, take, drop, get_or, All, Contains, Option, Some, None, Result, Ok, Err, refl, ap, sym, subst, ◌∙◌, arith, inl, inr}
+use Rattle.std.proofs.Common.{◌≡◌, ℕ, zero, suc, ◌+◌, ◌-◌, ◌<◌, ◌≤◌, ◌&&◌, nat_lt, Bool, true, false, if◌then◌else◌, List, [], ◌∷◌, ◌++◌, length, map, take, drop, get_or, All, Contains, Result, Ok, refl, ap, sym, subst, ◌∙◌, arith, inl, inr}
 use Rattle.std.proofs.lemmas.Bool.Decides.{nat_tests}
-use Rattle.std.proofs.lemmas.List.{get_or-map, length-drop, length-map, length-take, take-append-drop}
+use Rattle.std.proofs.lemmas.List.{get_or-map, length-map, length-take, take-append-drop}
 use Rattle.std.proofs.lemmas.List.Elements.{Contains-append_left, Contains-append_right}
-use Rattle.sha2.specs.Sha256.{sha256}
 use Rattle.base_types.specs.declared.posting.Posting.{Posting}
-use Rattle.lists_postings.specs.Lists.{EachNext, IsList, meets, sublist}
+use Rattle.lists_postings.specs.Lists.{IsList, meets, sublist}
 use Rattle.lists_postings.proofs.Clipping.{sublist_list}
 use Rattle.lists_postings.proofs.Elements.{filter-from, here-or-later, none}
 use Rattle.journal_entries.specs.declared.place.Layout.{Layout}
 use Rattle.journal_entries.specs.declared.place.Layout.TheVariants.{Flat, Blocks}
 use Rattle.journal_entries.specs.declared.place.Place.{Place}
 use Rattle.journal_entries.specs.declared.plan.PlanEntry.{PlanEntry}
-use Rattle.pages_area.specs.Ranges.{bytes_in}
 use Rattle.pages_codec.specs.Fields.{Fields, fields}
 use Rattle.pages_codec.specs.Blocks.{Head, block, block_spelling, blocks_at, head_for, pieces}
 use Rattle.pages_codec.specs.Frames.{FramesState, block_bytes, frames_at, start_of}
@@ -23,18 +21,17 @@ use Rattle.base_types.proofs.Equal.{same_posting}
 use Rattle.std.specs.List.{flat_map}
 use Rattle.pages_codec.proofs.BlockCodec.{block_codec}
 use Rattle.pages_codec.proofs.FramedLemmas.{block_of, piece_spelling, pieces-fields, spelled_frames}
-use Rattle.pages_sublists.specs.Fetching.{IsFirstAstray, belongs}
+use Rattle.pages_sublists.specs.Fetching.{belongs}
 use Rattle.pages_sublists.specs.Framing.{IsFramed, IsUnframed, IsUnopened}
-use Rattle.pages_sublists.specs.Gathering.{Chosen, bytes_of, chosen, overlapping}
-use Rattle.pages_sublists.specs.Segments.{AreCutsOf, EachSegment, HoldsSublist, next_cut, seconds}
+use Rattle.pages_sublists.specs.Gathering.{Chosen, bytes_of, chosen}
+use Rattle.pages_sublists.specs.Segments.{EachSegment, HoldsSublist, next_cut, seconds}
 use Rattle.pages_sublists.specs.declared.why.Damage.{Damage}
 use Rattle.pages_sublists.specs.declared.why.Why.{Why}
 use Rattle.pages_sublists.specs.declared.why.Why.TheVariants.{Astray, Bare, Clash, Digest, Form}
-use Rattle.model_archive.specs.Bests.{IsDamagedAt, IsDamagedIn, SpoilsBest, header, in_pieces}
+use Rattle.model_archive.specs.Bests.{IsDamagedAt, SpoilsBest, header, in_pieces}
 use Rattle.model_archive.specs.Histories.{History}
 use Rattle.model_archive.specs.Holding.{HoldsPlans}
 use Rattle.model_archive.specs.Legal.{IsLoadable}
-use Rattle.model_archive.specs.Plans.{plan_of}
 use Rattle.model_archive.proofs.ChosenLemmas.{IsHeld, held_for, held_undamaged}
 
 -- postings with the same numbers are the same

@@ -78,7 +78,7 @@ use Rattle.model_archive.proofs.ToldLemmas.{plans_alike}
 use Rattle.model_archive.proofs.CertifyingLemmas.{each_certifies, one_certifies}
 use Rattle.model_archive.proofs.VerifyLemmas.{each_verdict, one_verdict}
 use Rattle.model_archive.proofs.PlanningLemmas.{each_phrase, one_phrase, last_in_time}
-use Rattle.model_archive.specs.Choices.{IsChoice, IsStoring, SameButChosen, SameButOpened, SameButSegments, SamePlanned}
+use Rattle.model_archive.specs.Choices.{IsChoice, IsStoring, SameButChosen, SameButOpened, SamePlanned}
 use Rattle.model_archive.specs.Planning.{last_second, IsListUpTo}
 
 -- an entry that isn't refused is legal

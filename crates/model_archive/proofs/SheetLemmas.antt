@@ -1,5 +1,5 @@
 -- What there is of a word at a time: the headers are true, and it tells how often a document has the word.
-use Rattle.std.proofs.Common.{◌≡◌, ◌⊎◌, ℕ, zero, suc, ◌+◌, ◌*◌, ◌<◌, ◌≤◌, ◌^◌, ◌==◌, ◌&&◌, max, nat_lt, nat_le, Bool, true, false, cond, if◌then◌else◌, List, [], ◌∷◌, ◌++◌, length, map, take, drop, filter, sum_by, slice_index, All, Contains, Option, Some, None, refl, ap, ap₂, sym, subst, ◌∙◌, arith, inl, inr, append_assoc}
+use Rattle.std.proofs.Common.{◌≡◌, ◌⊎◌, ℕ, zero, suc, ◌+◌, ◌*◌, ◌<◌, ◌≤◌, ◌^◌, ◌==◌, ◌&&◌, max, nat_lt, Bool, true, false, cond, if◌then◌else◌, List, [], ◌∷◌, ◌++◌, length, map, take, drop, sum_by, slice_index, Option, Some, None, refl, ap, ap₂, sym, subst, ◌∙◌, arith, inl, inr}
 use Rattle.std.specs.List.{AllZip}
 use Rattle.std.specs.List.Sorted.{IsStrictlyIncreasing}
 use Rattle.std.proofs.lemmas.Bool.{cases_lt}
@@ -14,17 +14,16 @@ use Rattle.lists_postings.proofs.Clipping.{one_list_of, outside, rows_list, subl
 use Rattle.journal_entries.specs.declared.place.Layout.{Layout}
 use Rattle.journal_entries.specs.declared.place.Layout.TheVariants.{Flat, Blocks}
 use Rattle.journal_entries.specs.declared.plan.PlanEntry.{PlanEntry}
-use Rattle.pages_codec.specs.Fields.{Fields, fields}
-use Rattle.pages_codec.specs.Blocks.{head_for, pieces, top_of}
+use Rattle.pages_codec.specs.Fields.{fields}
+use Rattle.pages_codec.specs.Blocks.{pieces, top_of}
 use Rattle.pages_codec.specs.Blocks.{last_doc as last_field}
-use Rattle.pages_codec.specs.declared.head.BlockHead.{BlockHead}
 use Rattle.pages_sublists.specs.Segments.{AreCutsOf, next_cut, seconds}
 use Rattle.query_lang.specs.Grammar.{Query}
 use Rattle.query_lang.specs.Meaning.{score, weight, words_of}
 use Rattle.query_top.specs.Firsts.{Each}
 use Rattle.query_top.specs.Sheets.{IsHead, IsSheet, Sheet, greatest, joined, last_doc, often, total}
 use Rattle.query_top.specs.Sheets.{score as top_score}
-use Rattle.model_archive.specs.Answers.{IsWordList, frequency_at}
+use Rattle.model_archive.specs.Answers.{frequency_at}
 use Rattle.model_archive.specs.Bests.{AreSheets, IsSheetOf, header, in_pieces, sheet_laid, sublist_at, weights_in}
 use Rattle.model_archive.specs.Chosen.{IsTailFor}
 use Rattle.model_archive.specs.Histories.{History}

@@ -1,19 +1,18 @@
 -- The headers of a list that is spelled in blocks, and the bytes of each block.
-use Rattle.std.specs.Prelude.{◌≡◌, ℕ, zero, suc, ◌+◌, ◌-◌, ◌<◌, ◌≤◌, true, false, cond, nat_lt, nat_le, ◌&&◌, List, [], ◌∷◌, ◌++◌, length, map, take, drop, get_or, sum_by, Option, Some, None, Result, Ok, Err, refl, ⊤}
+use Rattle.std.specs.Prelude.{◌≡◌, ℕ, zero, suc, ◌+◌, ◌-◌, ◌<◌, ◌≤◌, true, false, cond, nat_lt, nat_le, List, [], ◌∷◌, ◌++◌, length, map, take, drop, get_or, Option, Some, None, Result, Ok, refl}
 use Rattle.std.proofs.Common.{sym, ap, ap₂, subst, ◌∙◌, arith, append_assoc}
 use Rattle.std.specs.List.{flat_map}
 use Rattle.std.proofs.lemmas.Bool.{le-ltb, le-leb}
-use Rattle.std.proofs.lemmas.Bool.Decides.{nat_tests}
 use Rattle.std.proofs.lemmas.List.{append-nil, length-append, length-take, length-drop, length-map, take-append-drop, take_at, drop_at, take_all, drop_all}
 use Rattle.std.proofs.lemmas.List.Sums.{sum_by-cons}
 use Rattle.base_types.specs.declared.posting.Posting.{Posting}
-use Rattle.base_types.specs.Reading.{◌>>=◌, value_or}
+use Rattle.base_types.specs.Reading.{◌>>=◌}
 use Rattle.lists_postings.specs.Lists.{IsList}
 use Rattle.pages_codec.specs.Fields.{Fields, fields}
 use Rattle.pages_codec.specs.Steps.{last_of, all_at}
 use Rattle.pages_codec.specs.Blocks.{Head, inside, head_bytes, head_for, head_front, block, pieces, block_spelling}
 use Rattle.pages_codec.specs.Heads.{head_of}
-use Rattle.pages_codec.specs.Frames.{FramesState, may_frame, front_of, frame_at, frames_at, start_of, block_bytes}
+use Rattle.pages_codec.specs.Frames.{may_frame, front_of, frame_at, frames_at, start_of}
 use Rattle.pages_codec.specs.declared.head.BlockHead.{BlockHead}
 use Rattle.pages_codec.proofs.AllAt.{all_step}
 use Rattle.pages_codec.proofs.FieldLemmas.{AreNext, next-parts, list_next}

@@ -1,12 +1,12 @@
 -- What is held of a word is the sheet whose blocks are spelled there.
-use Rattle.std.specs.Prelude.{◌≡◌, ℕ, zero, suc, ◌+◌, ◌<◌, ◌^◌, Bool, true, false, List, [], ◌∷◌, ◌++◌, length, map, get_or, Option, Some, None, Ok, refl}
+use Rattle.std.specs.Prelude.{◌≡◌, ℕ, zero, suc, ◌+◌, ◌<◌, Bool, true, false, List, [], ◌∷◌, ◌++◌, length, map, get_or, Option, Some, None, refl}
 use Rattle.std.specs.List.{AllZip}
 use Rattle.std.proofs.Common.{arith, ap, ap₂, sym, subst, ◌∙◌}
 use Rattle.std.proofs.lemmas.Bool.Decides.{nat_tests}
 use Rattle.base_types.specs.declared.posting.Posting.{Posting}
 use Rattle.base_types.proofs.Equal.{same_posting}
 use Rattle.lists_postings.specs.Lists.{IsList}
-use Rattle.pages_codec.specs.Fields.{Fields, fields}
+use Rattle.pages_codec.specs.Fields.{fields}
 use Rattle.pages_codec.specs.Blocks.{block_spelling, blocks_at}
 use Rattle.pages_codec.specs.Frames.{FramesState, block_bytes}
 use Rattle.pages_codec.proofs.BlockCodec.{block_codec}

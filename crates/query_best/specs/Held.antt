@@ -1,16 +1,12 @@
 -- What is held of some words: blocks in pages, by their headers, or postings at hand; and what is found in it.
-use Rattle.std.specs.Prelude.{◌≡◌, ℕ, zero, suc, ◌+◌, ◌<◌, List, [], ◌∷◌, length, map, get_or, Contains, Option, Some, None, Result, IfOk, IfErr}
-use Rattle.std.specs.declared.alloc.Global.{Global}
-use Rattle.std.specs.declared.vec.Vec.{Vec}
+use Rattle.std.specs.Prelude.{◌≡◌, ℕ, zero, suc, ◌+◌, ◌<◌, List, [], ◌∷◌, length, get_or, Contains, Option, Some, None}
 use Rattle.base_types.specs.declared.posting.Posting.{Posting}
 use Rattle.lists_postings.specs.Lists.{IsList}
 use Rattle.pages_codec.specs.Blocks.{block_spelling}
 use Rattle.pages_codec.specs.Frames.{FramesState, block_bytes}
 use Rattle.pages_codec.specs.declared.head.BlockHead.{BlockHead}
-use Rattle.pages_sublists.specs.Fetching.{IfDamaged, IfFailed}
 use Rattle.pages_sublists.specs.Framing.{IsUnopened}
 use Rattle.pages_sublists.specs.declared.why.Damage.{Damage}
-use Rattle.pages_sublists.specs.declared.why.FetchError.{FetchError}
 use Rattle.query_top.specs.Firsts.{Each, AreEnough, AreFirst}
 use Rattle.query_top.specs.Opening.{Opened, AreDistinct, HasShown}
 use Rattle.query_top.specs.Sheets.{Sheet, bound, head_at, score, sheet_at}

@@ -1,7 +1,6 @@
 //! Words whose blocks are opened.
-ghost use Rattle.std.specs.Prelude.{◌≡◌, ◌+◌, ◌<◌, length, get_or, [], IfOk, sum_by};
-ghost use Rattle.query_best.specs.Held.{heads_in, sheet_of};
-ghost use Rattle.query_top.specs.Sheets.{sheet_at};
+ghost use Rattle.std.specs.Prelude.{◌≡◌, ◌<◌, length, IfOk, sum_by};
+ghost use Rattle.query_best.specs.Held.{heads_in};
 ghost use Rattle.query_best.specs.Opening.{sheets_of};
 
 use crate::held::{HeldWord, heads_of, open_in};

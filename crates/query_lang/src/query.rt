@@ -1,5 +1,5 @@
 //! Queries.
-ghost use Rattle.std.specs.Prelude.{◌≡◌, ◌≤◌, ℕ, ◌<◌, List, [], true, length, map, All, Ok, Err, IfOk, IsErrOf, ◌∷◌, ◌&&◌, not, drop};
+ghost use Rattle.std.specs.Prelude.{◌≡◌, ◌≤◌, ℕ, ◌<◌, List, [], true, length, map, All, Ok, Err, IfOk, IsErrOf, ◌∷◌, ◌&&◌, not};
 ghost use Rattle.std.specs.List.{slice_index_or};
 ghost use Rattle.query_lang.specs.Chains.{asks_for_any, in_turn, is_or_chain};
 ghost use Rattle.query_lang.specs.Grammar.{IsRead};

@@ -1,5 +1,5 @@
 -- That a block which has a posting of a document shown isn't needless; and so there are blocks that may be opened for first rows.
-use Rattle.std.specs.Prelude.{◌≡◌, ◌≢◌, ◌⊎◌, ℕ, zero, suc, ◌+◌, ◌<◌, ◌≤◌, ◌==◌, ◌&&◌, ◌||◌, Bool, true, false, cond, List, [], ◌∷◌, ◌++◌, length, get_or, filter, Contains, ⊤, refl}
+use Rattle.std.specs.Prelude.{◌≡◌, ◌≢◌, ◌⊎◌, ℕ, zero, suc, ◌+◌, ◌<◌, ◌≤◌, ◌==◌, ◌&&◌, ◌||◌, Bool, true, false, cond, List, [], ◌∷◌, ◌++◌, length, get_or, filter, Contains, refl}
 use Rattle.std.specs.List.{list_any}
 use Rattle.std.proofs.Common.{arith, ap, sym, ◌∙◌, subst, inl, inr}
 use Rattle.std.proofs.lemmas.Bool.{cases_lt}
@@ -8,7 +8,7 @@ use Rattle.std.proofs.lemmas.List.{length-append}
 use Rattle.std.proofs.lemmas.List.Elements.{Contains-append_left, Contains-append_right}
 use Rattle.base_types.specs.declared.posting.Posting.{Posting}
 use Rattle.lists_postings.specs.Lists.{holds}
-use Rattle.lists_postings.proofs.Elements.{filter-in, filter-from, here-or-later}
+use Rattle.lists_postings.proofs.Elements.{filter-in, here-or-later}
 use Rattle.query_top.specs.Firsts.{Each, Beats, AreFirst, AreEnough, IsAscending, shows}
 use Rattle.query_top.specs.Sheets.{Sheet, IsSheet, often, covers, most, total, score, bound, sheet_at, head_at, no_sheet, no_head}
 use Rattle.query_top.specs.Opening.{Opened, AreDistinct, HasShown, run_of}

@@ -1,7 +1,6 @@
 use Rattle.std.proofs.Common.{Err, ap, refl, sym, subst}
 use Rattle.query_top.specs.Firsts.{Each}
 use Rattle.query_top.specs.Sheets.{IsSheet}
-use Rattle.query_best.specs.Opening.{sheets_of}
 use Rattle.query_best.proofs.OpeningLemmas.{bad-of, found-of}
 use Rattle.query_best.proofs.ReadingLemmas.{held-sheets}
 use Rattle.query_best.proofs.finding.best_rows.Goals as goal
