@@ -1,5 +1,5 @@
 -- Where the pages hold what the history's plans need, a step by what reads give is the abstract archive's.
-use Rattle.std.proofs.Common.{◌≡◌, ◌⊎◌, ℕ, ◌+◌, ◌^◌, List, [], ◌∷◌, ◌++◌, Option, Some, None, Result, Ok, Err, inl, inr, refl, ap, sym, subst}
+use Rattle.std.proofs.Common.{◌≡◌, ◌⊎◌, ℕ, ◌+◌, ◌^◌, List, [], ◌∷◌, ◌++◌, Bool, true, false, Option, Some, None, Result, Ok, Err, inl, inr, refl, ap, sym, subst}
 use Rattle.std.specs.List.{flat_map}
 use Rattle.machine_model.specs.Areas.{Bytes}
 use Rattle.machine_model.specs.States.{DiskState}
@@ -17,11 +17,13 @@ use Rattle.base_commands.specs.declared.command.Command.{Command}
 use Rattle.base_commands.specs.declared.command.Command.TheVariants as commands
 use Rattle.base_commands.specs.declared.command.Item.{Item}
 use Rattle.base_commands.specs.declared.command.Item.TheVariants as items
+use Rattle.base_commands.specs.declared.count.BestCount.{BestCount}
 use Rattle.base_commands.specs.declared.count.TopCount.{TopCount}
 use Rattle.base_commands.specs.declared.command.Kind.{Kind}
 use Rattle.base_commands.specs.declared.command.Kind.TheVariants.{Guarantee, Uniform, Since}
 use Rattle.base_commands.specs.declared.batch.BatchItems.TheVariants as batches
 use Rattle.base_commands.specs.declared.text.Text.TheVariants as texts
+use Rattle.query_lang.specs.Chains.{asks_for_any}
 use Rattle.query_lang.specs.Grammar.{Query}
 use Rattle.journal_entries.specs.declared.entry.Entry.{Entry}
 use Rattle.journal_entries.specs.declared.entry.Entry.TheVariants as entries
@@ -33,7 +35,8 @@ use Rattle.model_archive.specs.Legal.{IsLoadable}
 use Rattle.model_archive.specs.Planning.{OfBoundaries, OfList, OfPhrase, OfWidth, last_second}
 use Rattle.model_archive.specs.Plans.{live_extents}
 use Rattle.model_archive.specs.Stands.{EachStands, Stands, bodies_of}
-use Rattle.model_archive.specs.Steps.{Reply, Cause, Adds, AddsBatch, AddsPlan, CarriesOut, Declines, Step, StoresPlan, act_of, arrival_refusal, batch_cause, deletion_refusal, mark_refusal, full_journal, in_blocks, spelled_key}
+use Rattle.model_archive.proofs.HeldBestLemmas.{best_undamaged}
+use Rattle.model_archive.specs.Steps.{Reply, Bests, Cause, Adds, AddsBatch, AddsPlan, CarriesOut, Declines, Step, StoresPlan, act_of, arrival_refusal, batch_cause, deletion_refusal, mark_refusal, full_journal, in_blocks, spelled_key}
 use Rattle.model_archive.specs.Worlds.{world_of}
 use Rattle.model_archive.proofs.ChosenLemmas.{held_undamaged, made_at, made_over}
 use Rattle.model_archive.proofs.RoughMade.{made_rough}
@@ -44,7 +47,7 @@ use Rattle.pages_sublists.specs.declared.why.Damage.{Damage}
 use Rattle.archive_check.proofs.SoundLemmas.{stands_verified}
 use Rattle.model_archive.proofs.StandsLemmas.{spells_one_history}
 use Rattle.archive_hand.specs.States.{ArchiveState, AreInStep, AreInStepBy}
-use Rattle.archive_hand.specs.Stored.{Store, AsksOf, Spoils, StandsBy, Stocks, StoreStep}
+use Rattle.archive_hand.specs.Stored.{Store, AnswersBest, AsksOf, Spoils, StandsBy, Stocks, StoreStep}
 use Rattle.archive_hand.proofs.ByReadsLemmas.{stands_by}
 use Rattle.archive_hand.proofs.PhraseLemmas.{map_phrase}
 
@@ -205,6 +208,14 @@ neared s tolerance at expr reply next standing (Ok query, read, (rows, count, ma
 neared s tolerance at expr reply next standing (Err place, read, is, asks) =
     let same = asks_same s next 0 (2 ^ 40) (Err place) asks in ((same.0, (Err place, read, is)), same_next s next same.0 same.1 standing)
 
+bested : (s : Store) (count : BestCount) (at : Time) (expr : List ℕ) (b : Bool) (reply : Reply) (next : Store) → IsStanding s → AnswersBest b s count at expr reply next
+    → (next.history ≡ s.history) × (next.pages ≡ s.pages) × Bests b s.history count at expr reply
+bested s count at expr true reply next standing (Ok query, read, (told, made), asks) =
+    let same = asks_same s next at.seconds (at.seconds + 1) (Ok query) asks in (same.0, same.1, (Ok query, read, made standing.held))
+bested s count at expr true reply next standing (Err place, read, is, asks) =
+    let same = asks_same s next at.seconds (at.seconds + 1) (Err place) asks in (same.0, same.1, (Err place, read, is))
+bested s count at expr false reply next standing (same, replied) = (ap (λ (x : Store). x.history) same, ap (λ (x : Store). x.pages) same, replied)
+
 spanned : (s : Store) (span : Span) (expr : List ℕ) (reply : Reply) (next : Store) → IsStanding s → StoreStep s (items.Command (commands.Between span expr)) reply next
     → Step (world_of s.history) (items.Command (commands.Between span expr)) reply (world_of next.history) × IsStanding next
 spanned s span expr reply next standing (Ok query, read, (rows, count, made, is), asks) =
@@ -225,6 +236,8 @@ step_standing s (items.Command (commands.Top count at expr)) reply next standing
 step_standing s (items.Command (commands.Rough tolerance at expr)) reply next standing range step = neared s tolerance at expr reply next standing step
 step_standing s (items.Command (commands.Approx word tolerance)) reply next standing range (same, is) =
     let history = ap (λ (x : Store). x.history) same in ((history, is), same_next s next history (ap (λ (x : Store). x.pages) same) standing)
+step_standing s (items.Command (commands.Best count at expr)) reply next standing range step =
+    let best = bested s count at expr (asks_for_any expr) reply next standing step in ((best.0, best.2), same_next s next best.0 best.1 standing)
 step_standing s (items.Command (commands.Between span expr)) reply next standing range step = spanned s span expr reply next standing step
 step_standing s (items.Command (commands.Show doc at)) reply next standing range (reads, is) =
     let history = ap (λ (x : Store). x.history) reads in ((history, is), same_next s next history (ap (λ (x : Store). x.pages) reads) standing)
@@ -248,6 +261,7 @@ spoiled_never s (items.Command (commands.Top count at expr)) damage standing spo
     held_undamaged s.history s.pages spoils.first.word at.seconds (at.seconds + 1) damage standing.loadable standing.held spoils.first.damaged
 spoiled_never s (items.Command (commands.Rough tolerance at expr)) damage standing spoils =
     held_undamaged s.history s.pages spoils.first.word 0 (2 ^ 40) damage standing.loadable standing.held spoils.first.damaged
+spoiled_never s (items.Command (commands.Best count at expr)) damage standing spoils = best_undamaged s.history s.pages at.seconds expr damage standing.loadable standing.held spoils
 spoiled_never s (items.Command (commands.Between span expr)) damage standing spoils =
     held_undamaged s.history s.pages spoils.first.word span.from span.to damage standing.loadable standing.held spoils.first.damaged
 spoiled_never s other damage standing spoils = spoils

@@ -1,6 +1,6 @@
 -- An archive by what reads give: what an item of the input does to it, and what is replied. Nothing is asked of what lies in Pages: where it holds what
 -- the history's plans need, this is the abstract archive's step over the history.
-use Rattle.std.specs.Prelude.{◌≡◌, ℕ, ◌+◌, ◌^◌, List, [], ◌∷◌, ◌++◌, length, take, All, Result, Ok, Err}
+use Rattle.std.specs.Prelude.{◌≡◌, ℕ, ◌+◌, Bool, true, false, ◌^◌, List, [], ◌∷◌, ◌++◌, length, take, All, Result, Ok, Err}
 use Rattle.machine_model.specs.Areas.{Bytes}
 use Rattle.machine_model.specs.Images.{MayLeave}
 use Rattle.machine_model.specs.States.{DiskState}
@@ -15,11 +15,13 @@ use Rattle.pages_area.specs.Ranges.{bytes_in}
 use Rattle.pages_area.specs.Taken.{AreApart}
 use Rattle.journal_entries.specs.declared.entry.Entry.TheVariants as entries
 use Rattle.journal_entries.specs.declared.plan.PlanEntry.{PlanEntry}
+use Rattle.base_commands.specs.declared.count.BestCount.{BestCount}
 use Rattle.base_commands.specs.declared.count.TopCount.{TopCount}
 use Rattle.base_commands.specs.declared.command.Command.{Command}
 use Rattle.base_commands.specs.declared.command.Command.TheVariants as commands
 use Rattle.base_commands.specs.declared.command.Item.{Item}
 use Rattle.base_commands.specs.declared.command.Item.TheVariants as items
+use Rattle.query_lang.specs.Chains.{asks_for_any}
 use Rattle.query_lang.specs.Grammar.{Query, IsRead}
 use Rattle.query_lang.specs.Meaning.{words_of}
 use Rattle.query_lang.specs.Tokens.{term_of}
@@ -28,13 +30,14 @@ use Rattle.query_eval.specs.declared.spans.SpanRow.{SpanRow}
 use Rattle.pages_sublists.specs.declared.why.Damage.{Damage}
 use Rattle.model_archive.specs.declared.refusal.Refusal.TheVariants as refusals
 use Rattle.model_archive.specs.declared.verdict.Verdict.{Verdict}
+use Rattle.model_archive.specs.Bests.{SpoilsBest}
 use Rattle.model_archive.specs.Chosen.{IsMadeAt, IsMadeOver, SpoilsAnswer, pieces_for}
 use Rattle.model_archive.specs.Histories.{History, text_at}
-use Rattle.model_archive.specs.Holding.{HoldsPlan}
+use Rattle.model_archive.specs.Holding.{HoldsPlan, HoldsPlans}
 use Rattle.model_archive.specs.Plans.{live_extents}
 use Rattle.model_archive.specs.Rough.{IsMadeRough}
 use Rattle.model_archive.specs.Stands.{bodies_of}
-use Rattle.model_archive.specs.Steps.{Reply, Accepted, Found, Planned, Neared, Refused, Spanned, Verified, Version, Approximates, CarriesOut, Certifies, IsRepliedBy, Proposes}
+use Rattle.model_archive.specs.Steps.{Reply, Accepted, Found, FoundBest, Planned, Neared, Refused, Spanned, Verified, Version, BestsBy, Approximates, CarriesOut, Certifies, IsNoDisjunction, IsReplied, IsRepliedBy, Proposes}
 use Rattle.archive_check.specs.Checked.{IsChecked}
 
 -- an archive by what reads give: its history, the bytes of Pages, the pieces of pages that it keeps, and how many bytes of Pages were read
@@ -83,6 +86,13 @@ abbrev pub MakesRough : Store → Tolerance → Time → Query → Reply → Typ
 MakesRough store tolerance at query reply = (rows : List Row) × (read : ℕ)
     × IsMadeRough store.history store.pages tolerance at.seconds query rows read × (reply ≡ Neared rows read)
 
+-- First rows by blocks are told, and how many blocks were opened: the abstract archive's, where Pages hold what the history's plans need. On other
+-- bytes headers may lie, so nothing is said of which rows they are.
+abbrev pub MakesBest : Store → BestCount → Time → Query → Reply → Type 0
+MakesBest store count at query reply =
+    ((rows : List Row) × (read opened blocks : ℕ) × (reply ≡ FoundBest rows read opened blocks))
+    × (HoldsPlans store.history store.pages → BestsBy store.history count at query reply)
+
 -- what is found over a window, by the lists that are chosen
 abbrev pub MakesOver : Store → Span → Query → Reply → Type 0
 MakesOver store span query reply = (rows : List SpanRow) × (read : ℕ)
@@ -113,6 +123,12 @@ abbrev pub Answers : (Query → Reply → Type 0) → Store → ℕ → ℕ → 
 Answers Makes old a b text reply new = (query : Result Query ℕ) × IsRead term_of text query × IsRepliedBy Makes query reply
     × AsksOf old a b query new
 
+-- The first rows by blocks, by a text; the first argument says that it asks for any of some words. The same pages are asked for as for all rows; and
+-- none for a text that doesn't ask so.
+abbrev pub AnswersBest : Bool → Store → BestCount → Time → List ℕ → Reply → Store → Type 0
+AnswersBest true old count at text reply new = Answers (MakesBest old count at) old at.seconds (at.seconds + 1) text reply new
+AnswersBest false old count at text reply new = (new ≡ old) × IsReplied IsNoDisjunction text reply
+
 -- nothing changes but how many bytes were read
 abbrev pub ReadsOn : Store → Store → Type 0
 ReadsOn old new = new ≡ record old { read = new.read }
@@ -131,6 +147,7 @@ StoreStep old (items.Command (commands.Top count at expr)) reply new = Answers (
 StoreStep old (items.Command (commands.Rough tolerance at expr)) reply new =
     Answers (MakesRough old tolerance at) old 0 (2 ^ 40) expr reply new
 StoreStep old (items.Command (commands.Approx word tolerance)) reply new = (new ≡ old) × Approximates old.history word tolerance reply
+StoreStep old (items.Command (commands.Best count at expr)) reply new = AnswersBest (asks_for_any expr) old count at expr reply new
 StoreStep old (items.Command (commands.Between span expr)) reply new = Answers (MakesOver old span) old span.from span.to expr reply new
 StoreStep old (items.Command (commands.Show doc at)) reply new = ReadsOn old new × (reply ≡ Version (text_at old.history doc at.seconds))
 StoreStep old (items.Command (commands.Propose word fraction)) reply new = (new ≡ old) × Proposes old.history word fraction reply
@@ -151,6 +168,8 @@ AsksOver P (items.Command (commands.Rough tolerance at expr)) = P 0 (2 ^ 40) exp
 AsksOver P (items.Command (commands.Between span expr)) = P span.from span.to expr
 AsksOver P other = ⊥
 
--- the item asks what is found, and this is the first that is damaged of what is read for it
+-- The item asks what is found, and this is the first that is damaged of what is read for it; or it asks for the first rows by blocks, and this is
+-- damaged of what is read for them.
 abbrev pub Spoils : Store → Item → Damage → Type 0
+Spoils store (items.Command (commands.Best count at expr)) damage = SpoilsBest store.history store.pages at.seconds expr damage
 Spoils store item damage = AsksOver (λ a b text. SpoilsAnswer store.history store.pages a b text damage) item

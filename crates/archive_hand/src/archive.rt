@@ -10,12 +10,13 @@ ghost use Rattle.model_archive.specs.Histories.{History};
 ghost use Rattle.archive_hand.specs.Asking.{HasAsked};
 ghost use Rattle.archive_hand.specs.States.{StandsFor, StandsBut, CacheStands, IsSameButCache, Reaches};
 ghost use Rattle.archive_hand.specs.Adding.{GivesUp};
+ghost use Rattle.archive_plans.specs.Framing.{AreInTurn, IsFramedAt, IsUnframedAt};
 ghost use Rattle.lists_index.specs.Indexes.{state_of};
 
 use crate::error::ChangeError;
 use archive_entries::Declined;
-use archive_plans::Shelf;
-use base_types::Span;
+use archive_plans::{SegmentFrames, Shelf};
+use base_types::{Span, Time};
 use journal_gates::Journal;
 use lists_index::Index;
 use lists_versions::Directory;
@@ -161,6 +162,39 @@ impl Archive {
         ensures stands { (h : History) × StandsBut self.now h }
     {
         &self.shelf
+    }
+
+    /// The headers of the blocks of the segment that has a time, of the plan that stands at this place, whose
+    /// sublists are in blocks; None where no segment has the time. Nothing is changed but which pages are kept.
+    ///
+    /// `Damaged`: the place's bytes haven't the digest that the entry of the plan says, or no headers. `Failed`:
+    /// the disk failed. `Memory`: an allocation failed. Costs what `Shelf::frames_at` does.
+    pub fn frames_at<D: Disk>(
+        &mut self,
+        alloc: Global,
+        disk: &mut D,
+        place: usize,
+        t: Time,
+    ) -> Result<Option<SegmentFrames>, FetchError>
+        requires within { Reaches (D.disk disk.old).reach self.old }
+        requires there { place < length self.old.shelf.plans }
+        ensures only { D.Disk.only disk.old disk.new }
+        ensures failed { IfErr result (IfFailed (Rose (D.disk disk.old).faults (D.disk disk.new).faults)) }
+        ensures same { OnlyReads (D.disk disk.old) (D.disk disk.new) }
+        ensures but_cache { IsSameButCache self.old self.new }
+        ensures cached { D.disk_tells → CacheStands (D.disk disk.old) self.old → CacheStands (D.disk disk.new) self.new }
+        ensures asked { D.disk_tells → CacheStands (D.disk disk.old) self.old → (s : PlainStored)
+            → s ≡ get_or self.old.shelf.plans place s → AreInTurn s.plan →
+            OnOk result (HasAsked (pieces_chosen (D.disk disk.old).holds.pages (Some s.plan) t.seconds (t.seconds + 1)) self.old.shelf.cache
+            self.new.shelf.cache (D.disk disk.old) (D.disk disk.new)) }
+        ensures framed { D.disk_tells → CacheStands (D.disk disk.old) self.old → (s : PlainStored)
+            → s ≡ get_or self.old.shelf.plans place s → AreInTurn s.plan
+            → IfOk result (IsFramedAt (D.disk disk.old).holds.pages s.plan t.seconds) }
+        ensures damaged { D.disk_tells → CacheStands (D.disk disk.old) self.old → (s : PlainStored)
+            → s ≡ get_or self.old.shelf.plans place s → AreInTurn s.plan
+            → IfErr result (IfDamaged (IsUnframedAt (D.disk disk.old).holds.pages s.plan t.seconds)) }
+    {
+        self.shelf.frames_at(alloc, disk, place, t)
     }
 
     /// What Pages have in a window of the list of the plan that stands at this place. Nothing is changed

@@ -8,3 +8,5 @@ mod PlanLemmas
 mod LiveLemmas
 mod ChosenLemmas
 mod CacheLemmas
+mod BestLemmas
+mod BestMadeLemmas

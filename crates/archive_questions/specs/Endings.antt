@@ -5,9 +5,10 @@ use Rattle.plans_kinds.specs.declared.proposal.Proposal.{Proposal}
 use Rattle.query_eval.specs.declared.answer.Answer.{Answer}
 use Rattle.query_eval.specs.declared.spans.SpanAnswer.{SpanAnswer}
 use Rattle.model_archive.specs.declared.verdict.Verdict.{Verdict}
-use Rattle.model_archive.specs.Steps.{Reply, Refused, Found, Spanned, Approximated, Neared, Version, Proposed, Verified}
+use Rattle.model_archive.specs.Steps.{Reply, Refused, Found, FoundBest, Spanned, Approximated, Neared, Version, Proposed, Verified}
 use Rattle.archive_questions.specs.declared.approximating.Approximation.{Approximation}
 use Rattle.archive_questions.specs.declared.approximating.RoughAnswer.{RoughAnswer}
+use Rattle.archive_questions.specs.declared.besting.BestAnswer.{BestAnswer}
 use Rattle.archive_questions.specs.declared.error.AskError.{AskError}
 use Rattle.archive_questions.specs.declared.error.AskError.TheVariants as asks
 use Rattle.archive_check.specs.declared.error.VerifyError.{VerifyError}
@@ -31,6 +32,9 @@ answered reply (Err error) = unanswered error
 
 abbrev pub found : Result Answer AskError → Ending
 found = answered (λ answer. Found answer.rows.items answer.read)
+
+abbrev pub best_found : Result BestAnswer AskError → Ending
+best_found = answered (λ best. FoundBest best.rows.items best.read best.opened best.blocks)
 
 abbrev pub spanned : Result SpanAnswer AskError → Ending
 spanned = answered (λ answer. Spanned answer.rows.items answer.read)

@@ -18,7 +18,7 @@ ghost use Rattle.archive_questions.specs.Endings.{found, version_shown};
 ghost use Rattle.base_commands.specs.declared.command.Command.TheVariants as commands;
 ghost use Rattle.base_commands.specs.declared.command.Item.TheVariants as items;
 
-use crate::choosing::parts_of;
+use crate::choosing::{moment, parts_of};
 use crate::error::{AskError, asked};
 use archive_entries::{ReadError, read_text};
 use archive_hand::Archive;
@@ -226,15 +226,4 @@ pub fn show<D: Disk>(
     };
     let text = read_text(alloc, disk, archive.journal(), place)?;
     Ok(Some(text))
-}
-
-/// The window of one second.
-fn moment(t: Time) -> Span
-    ensures from { result.from ≡ t.seconds }
-    ensures to { result.to ≡ t.seconds + 1 }
-{
-    Span {
-        from: t.seconds,
-        to: t.seconds + 1,
-    }
 }

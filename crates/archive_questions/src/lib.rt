@@ -9,15 +9,18 @@
 
 mod approximating;
 mod asking;
+mod besting;
 mod certifying;
 mod checking;
 mod choosing;
 mod error;
+mod holding;
 mod planning;
 mod windows;
 
 pub use approximating::{Approximation, RoughAnswer, approx, rough};
 pub use asking::{find, show, top};
+pub use besting::{BestAnswer, best};
 pub use certifying::certificate;
 pub use checking::verify;
 pub use error::AskError;

@@ -1,8 +1,8 @@
 //! A page on which replies are written.
 ghost use Rattle.std.specs.Prelude.{◌≡◌, ◌+◌, ◌≤◌, [], ◌++◌, length, codes, decimal, Some, None, IfOk, OnOk, OnErr};
 ghost use Rattle.archive_replies.specs.Pages.{reply_room};
-ghost use Rattle.model_archive.specs.Replies.{approx_text, cost_text, detail_text, end_text, full_text, near_text, node_text, reply_text, row_text, segment_text, space_text, span_text, which_text};
-ghost use Rattle.model_archive.specs.Steps.{Accepted, Refused, RefusedIn, Found, Spanned, Approximated, Neared, Version, Proposed, Planned};
+ghost use Rattle.model_archive.specs.Replies.{approx_text, cost_text, detail_text, end_text, full_text, near_text, node_text, reply_text, row_text, segment_text, space_text, span_text, which_text, best_end_text};
+ghost use Rattle.model_archive.specs.Steps.{Accepted, Refused, RefusedIn, Found, FoundBest, Spanned, Approximated, Neared, Version, Proposed, Planned};
 
 use base_types::{Posting, Span, Which};
 use itoa::Buffer;
@@ -98,6 +98,25 @@ impl ReplyPage {
             self.put_row(row)?;
         }
         self.put_end(rows.len(), read)
+    }
+
+    /// Writes the first rows that a query found by blocks, and that so many postings were read for all of
+    /// them and so many blocks opened of so many, in place of what the page held. It takes memory; an error
+    /// means that memory ran out, and leaves a part of the reply. The cost is linear in the rows.
+    pub fn found_best(
+        &mut self,
+        rows: &[Row],
+        read: u64,
+        opened: u64,
+        blocks: u64,
+    ) -> Result<(), AllocError>
+        ensures { OnOk result (self.new.bytes ≡ reply_text (FoundBest rows.now read opened blocks)) }
+    {
+        self.clear();
+        for row in rows {
+            self.put_row(row)?;
+        }
+        self.put_best_end(rows.len(), read, opened, blocks)
     }
 
     /// Writes the rows that a query found over a window of time, and that so many postings were read
@@ -318,6 +337,26 @@ impl ReplyPage {
         self.make_room(REPLY_ROOM)?;
         self.put_named(b"end ", rows as u64);
         self.put_named(b" read ", read);
+        self.put(b"\n");
+        Ok(())
+    }
+
+    /// Adds how many rows there are, how many postings were read for them, and how many blocks were opened
+    /// of how many. It takes memory where there is no room. Constant cost but for that.
+    fn put_best_end(
+        &mut self,
+        rows: usize,
+        read: u64,
+        opened: u64,
+        blocks: u64,
+    ) -> Result<(), AllocError>
+        ensures { OnOk result (self.new.bytes ≡ self.old.bytes ++ best_end_text rows read opened blocks) }
+    {
+        self.make_room(REPLY_ROOM)?;
+        self.put_named(b"end ", rows as u64);
+        self.put_named(b" read ", read);
+        self.put_named(b" opened ", opened);
+        self.put_named(b" of ", blocks);
         self.put(b"\n");
         Ok(())
     }

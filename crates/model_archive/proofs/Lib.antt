@@ -19,3 +19,6 @@ pub mod OutcomeLemmas
 mod BoundLemmas
 pub mod ChosenLemmas
 pub mod RoughMade
+pub mod SheetLemmas
+pub mod BestLemmas
+pub mod HeldBestLemmas

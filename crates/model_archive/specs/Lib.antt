@@ -1,4 +1,5 @@
 pub mod Answers
+pub mod Bests
 pub mod Bounds
 pub mod Choices
 pub mod Chosen

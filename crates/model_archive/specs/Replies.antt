@@ -15,7 +15,7 @@ use Rattle.model_archive.specs.declared.summary.Summary.{Summary}
 use Rattle.model_archive.specs.declared.verdict.Verdict.{Verdict}
 use Rattle.model_archive.specs.declared.verdict.Verdict.TheVariants.{Sound, Differs, NotLeast, BadText}
 use Rattle.model_archive.specs.Refusals.{number_of}
-use Rattle.model_archive.specs.Steps.{Reply, Accepted, Refused, RefusedIn, Found, Spanned, Approximated, Neared, Version, Proposed, Planned, Verified}
+use Rattle.model_archive.specs.Steps.{Reply, Accepted, Refused, RefusedIn, Found, FoundBest, Spanned, Approximated, Neared, Version, Proposed, Planned, Verified}
 
 -- the name of a limit in a reply
 abbrev pub which_text : Which → List ℕ
@@ -74,6 +74,15 @@ end_text rows read = codes "end " ++ decimal rows ++ codes " read " ++ decimal r
 -- a line for each row, and the last line
 abbrev pub answer_text : List Row → ℕ → List ℕ
 answer_text rows read = flat_map row_text rows ++ end_text (length rows) read
+
+-- the last line of the first rows that are found by blocks: the same, and how many blocks were opened, of how many
+abbrev pub best_end_text : ℕ → ℕ → ℕ → ℕ → List ℕ
+best_end_text rows read opened blocks = codes "end " ++ decimal rows ++ codes " read " ++ decimal read ++ codes " opened " ++ decimal opened
+    ++ codes " of " ++ decimal blocks ++ 10 ∷ []
+
+-- a line for each row, and that line
+abbrev pub best_text : List Row → ℕ → ℕ → ℕ → List ℕ
+best_text rows read opened blocks = flat_map row_text rows ++ best_end_text (length rows) read opened blocks
 
 -- the same of rows over time
 abbrev pub spans_text : List SpanRow → ℕ → List ℕ
@@ -158,6 +167,7 @@ reply_text (Accepted count) = codes "ok " ++ decimal count ++ 10 ∷ []
 reply_text (Refused why) = refusal_text why
 reply_text (RefusedIn why index) = refusal_in_text why index
 reply_text (Found rows read) = answer_text rows read
+reply_text (FoundBest rows read opened blocks) = best_text rows read opened blocks
 reply_text (Spanned rows read) = spans_text rows read
 reply_text (Approximated short full) = approximated_text short full
 reply_text (Neared rows read) = neared_text rows read

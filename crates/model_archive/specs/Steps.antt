@@ -1,5 +1,5 @@
 -- The machine that an archive is: what an item of the input does to a history, and what is replied.
-use Rattle.std.specs.Prelude.{◌≡◌, ◌⊎◌, ℕ, ◌+◌, ◌^◌, nat_lt, not, if◌then◌else◌, List, [], ◌∷◌, ◌++◌, length, take, Option, Some, None, unwrap_or, Result, Ok, Err}
+use Rattle.std.specs.Prelude.{◌≡◌, ◌⊎◌, ℕ, ◌+◌, ◌^◌, nat_lt, Bool, true, false, not, if◌then◌else◌, List, [], ◌∷◌, ◌++◌, length, take, Option, Some, None, unwrap_or, Result, Ok, Err}
 use Rattle.std.specs.List.{AllZip, flat_map}
 use Rattle.std.specs.Option.{option_map}
 use Rattle.std.specs.Str.{is_utf8}
@@ -23,6 +23,7 @@ use Rattle.base_commands.specs.declared.command.Item.{Item}
 use Rattle.base_commands.specs.declared.command.Item.TheVariants as items
 use Rattle.base_commands.specs.declared.command.Kind.{Kind}
 use Rattle.base_commands.specs.declared.command.Kind.TheVariants.{Guarantee}
+use Rattle.base_commands.specs.declared.count.BestCount.{BestCount}
 use Rattle.base_commands.specs.declared.count.TopCount.{TopCount}
 use Rattle.base_commands.specs.declared.text.Text.{Text}
 use Rattle.base_commands.specs.declared.text.Text.TheVariants as texts
@@ -44,6 +45,7 @@ use Rattle.text_words.specs.Terms.{one_term}
 use Rattle.plans_kinds.specs.Proposals.{IsProposal, IsShown}
 use Rattle.plans_kinds.specs.declared.proposal.Node.{Node}
 use Rattle.plans_kinds.specs.declared.proposal.Segment.{Segment}
+use Rattle.query_lang.specs.Chains.{asks_for_any}
 use Rattle.query_lang.specs.Grammar.{Query, IsRead}
 use Rattle.query_lang.specs.Meaning.{words_of}
 use Rattle.query_lang.specs.Tokens.{term_of}
@@ -55,6 +57,7 @@ use Rattle.model_archive.specs.declared.summary.Summary.{Summary}
 use Rattle.model_archive.specs.declared.verdict.Verdict.{Verdict}
 use Rattle.model_archive.specs.Histories.{History, act_refusal, entry_refusal, old_format, long_batch, most_batch, singles, end_of, text_at}
 use Rattle.model_archive.specs.Answers.{IsAnswerAt, IsSpanAnswerAt, IsWordList}
+use Rattle.model_archive.specs.Bests.{AreFoundByBlocks}
 use Rattle.model_archive.specs.Chosen.{IsReadFor}
 use Rattle.model_archive.specs.Planning.{OfPhrase, OfTerm, IsListUpTo, last_second}
 use Rattle.model_archive.specs.Plans.{live_extents, plan_of}
@@ -72,6 +75,8 @@ pub data Reply : Type 0 where
   RefusedIn : Refusal → ℕ → Reply
   -- the rows that match, and how many postings were read for them
   Found : List Row → ℕ → Reply
+  -- the same, and how many blocks were opened for them, of how many
+  FoundBest : List Row → ℕ → ℕ → ℕ → Reply
   -- the same of a window of time
   Spanned : List SpanRow → ℕ → Reply
   -- the postings of an approximation, and how many the whole list has
@@ -163,6 +168,23 @@ NearsBy history tolerance at query reply =
 -- the same by a text
 abbrev pub Nears : History → Tolerance → Time → List ℕ → Reply → Type 0
 Nears history tolerance at text reply = IsReplied (NearsBy history tolerance at) text reply
+
+-- the first rows of what is found at a time by a query, as they are found by blocks
+abbrev pub BestsBy : History → BestCount → Time → Query → Reply → Type 0
+BestsBy history count at query reply =
+    (rows : List Row) × (read opened blocks : ℕ) × IsAnswerAt history at.seconds query rows
+    × IsReadFor history at.seconds (at.seconds + 1) (words_of query) read
+    × AreFoundByBlocks history at.seconds count.number query (take count.number rows) opened blocks
+    × (reply ≡ FoundBest (take count.number rows) read opened blocks)
+
+-- what a text that is a query is answered, where it doesn't ask for any of some words and for nothing else
+abbrev pub IsNoDisjunction : Query → Reply → Type 0
+IsNoDisjunction query reply = reply ≡ Refused refusals.NotDisjunction
+
+-- the same as the first rows, by a text; the first argument says that it asks for any of some words
+abbrev pub Bests : Bool → History → BestCount → Time → List ℕ → Reply → Type 0
+Bests true history count at text reply = IsReplied (BestsBy history count at) text reply
+Bests false history count at text reply = IsReplied IsNoDisjunction text reply
 
 -- what is found over a window of time by a query, in rows and postings read
 abbrev pub SpansBy : History → Span → Query → Reply → Type 0
@@ -347,6 +369,7 @@ CarriesOut old (commands.Find at expr) reply new = (new ≡ old) × Finds old at
 CarriesOut old (commands.Top count at expr) reply new = (new ≡ old) × Tops old count at expr reply
 CarriesOut old (commands.Approx word tolerance) reply new = (new ≡ old) × Approximates old word tolerance reply
 CarriesOut old (commands.Rough tolerance at expr) reply new = (new ≡ old) × Nears old tolerance at expr reply
+CarriesOut old (commands.Best count at expr) reply new = (new ≡ old) × Bests (asks_for_any expr) old count at expr reply
 CarriesOut old (commands.Show doc at) reply new = (new ≡ old) × (reply ≡ Version (text_at old doc at.seconds))
 CarriesOut old (commands.Plan word kind fraction) reply new = Plans old word kind fraction reply new
 CarriesOut old (commands.Propose word fraction) reply new = (new ≡ old) × Proposes old word fraction reply

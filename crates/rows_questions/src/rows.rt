@@ -1,4 +1,5 @@
 //! The rows, by what they ask of the program.
+mod best;
 mod between;
 mod cache;
 mod find;

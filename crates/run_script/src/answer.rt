@@ -2,7 +2,7 @@
 ghost use Rattle.std.specs.Prelude.{◌≡◌, ◌⊎◌, Ok, OnOk, IsOk, IsErrOf};
 ghost use Rattle.machine_model.specs.Causes.{Rose};
 ghost use Rattle.model_archive.specs.Replies.{reply_text};
-ghost use Rattle.model_archive.specs.Steps.{Found, Neared, Refused, Reply, Spanned};
+ghost use Rattle.model_archive.specs.Steps.{Found, FoundBest, Neared, Refused, Reply, Spanned};
 ghost use Rattle.archive_hand.specs.States.{AreInStepBy};
 ghost use Rattle.archive_hand.specs.Stored.{Store, TellsNoEntry};
 ghost use Rattle.archive_hand.specs.Adding.{IsDone};
@@ -19,8 +19,8 @@ use archive_check::VerifyError;
 use archive_entries::{Declined, ReadError};
 use archive_hand::{Archive, ChangeError};
 use archive_questions::{
-    Approximation, AskError, RoughAnswer, approx, between, certificate, find, propose, rough, show,
-    top, verify,
+    Approximation, AskError, BestAnswer, RoughAnswer, approx, best, between, certificate, find,
+    propose, rough, show, top, verify,
 };
 use archive_replies::ReplyPage;
 use base_commands::{Command, Item, MOST_TEXT_BYTES, Text};
@@ -85,6 +85,10 @@ pub(crate) fn answer<D: Disk>(
             let result = rough(alloc, disk, archive, tolerance, at, &expr);
             write_answer(page, result)
         }
+        Command::Best { count, at, expr } => {
+            let result = best(alloc, disk, archive, count, at, &expr);
+            write_answer(page, result)
+        }
         Command::Between { span, expr } => {
             let result = between(alloc, disk, archive, span, &expr);
             write_answer(page, result)
@@ -114,7 +118,6 @@ pub(crate) fn answer<D: Disk>(
             write_verified(page, result)
         }
         Command::Begin { .. } => refuse(page, Refusal::Line),
-        Command::Best { .. } => refuse(page, Refusal::Line),
         Command::Share { .. } => refuse(page, Refusal::Line),
     }
 }
@@ -262,6 +265,14 @@ impl Written for RoughAnswer {
 
     fn write(&self, page: &mut ReplyPage) -> Result<(), AllocError> {
         page.neared(&self.rows, self.read)
+    }
+}
+
+impl Written for BestAnswer {
+    ghost reply = { λ best. FoundBest best.rows.items best.read best.opened best.blocks };
+
+    fn write(&self, page: &mut ReplyPage) -> Result<(), AllocError> {
+        page.found_best(&self.rows, self.read, self.opened, self.blocks)
     }
 }
 
