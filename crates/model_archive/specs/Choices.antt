@@ -1,4 +1,5 @@
--- What the abstract archive is free to choose: which least plan it proposes, and which least or best plan it stores.
+-- What the abstract archive is free to choose: which least plan it proposes, which least or best plan it stores, and which best choice it tells of words
+-- that share a budget.
 use Rattle.std.specs.Prelude.{◌≡◌, ◌⊎◌, ℕ, List, None}
 use Rattle.base_commands.specs.declared.command.Command.TheVariants as commands
 use Rattle.base_commands.specs.declared.command.Item.{Item}
@@ -8,16 +9,22 @@ use Rattle.plans_kinds.specs.declared.proposal.Segment.{Segment}
 use Rattle.model_archive.specs.declared.summary.Summary.{Summary}
 use Rattle.model_archive.specs.Steps.{Reply, Proposed}
 
--- the item asks for a plan, to be proposed or to be stored: only such an item may have several outcomes
+-- the item asks for a plan, to be proposed or to be stored, or for a budget to be shared: only such an item may have several outcomes
 abbrev pub IsChoice : Item → Type 0
 IsChoice (items.Command (commands.Propose word fraction)) = Unit {0}
 IsChoice (items.Command (commands.Plan word kind fraction)) = Unit {0}
+IsChoice (items.Command (commands.Share factor words)) = Unit {0}
 IsChoice other = ⊥
 
 -- the item asks for a plan to be stored
 abbrev pub IsStoring : Item → Type 0
 IsStoring (items.Command (commands.Plan word kind fraction)) = Unit {0}
 IsStoring other = ⊥
+
+-- the item asks for a budget to be shared
+abbrev pub IsSharing : Item → Type 0
+IsSharing (items.Command (commands.Share factor words)) = Unit {0}
+IsSharing other = ⊥
 
 -- the replies are the same, or two proposals that differ in their segments alone
 abbrev pub SameButSegments : Reply → Reply → Type 0

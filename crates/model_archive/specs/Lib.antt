@@ -12,6 +12,7 @@ pub mod Refusals
 pub mod Replies
 pub mod Rows
 pub mod Runs
+pub mod Sharing
 pub mod Standing
 pub mod Stands
 pub mod Steps
