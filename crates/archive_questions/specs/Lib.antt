@@ -2,3 +2,4 @@ pub mod Causes
 pub mod Answering
 pub mod After
 pub mod Endings
+pub mod Sharers

@@ -1,7 +1,7 @@
 -- What the one piece costs, and bounds of what is offered.
-use Rattle.std.specs.Prelude.{◌≡◌, ◌⊎◌, ℕ, zero, suc, ◌+◌, ◌-◌, ◌*◌, ◌/◌, ◌^◌, ◌<◌, ◌≤◌, nat_le, nat_lt, ◌&&◌, if◌then◌else◌, List, [], ◌∷◌, map, length, slice_index, All, Contains, refl}
+use Rattle.std.specs.Prelude.{◌≡◌, ℕ, zero, suc, ◌+◌, ◌-◌, ◌*◌, ◌^◌, ◌<◌, ◌≤◌, nat_le, nat_lt, ◌&&◌, List, [], ◌∷◌, map, length, slice_index, All, refl}
 use Rattle.std.specs.List.Sorted.{IsStrictlyIncreasing}
-use Rattle.std.proofs.Common.{arith, ap, sym, ◌∙◌, add-mul, lt-ltb, le-leb}
+use Rattle.std.proofs.Common.{arith, ap, sym, subst, ◌∙◌, add-mul, lt-ltb, le-leb}
 use Rattle.std.proofs.Math.Nat.{mul-le-mul, div-mul-le_self, div-le_self, zero-mul}
 use Rattle.std.proofs.lemmas.List.{length-map, get_or-map}
 use Rattle.std.proofs.lemmas.List.Elements.{Contains-get_or}
@@ -9,11 +9,13 @@ use Rattle.std.proofs.lemmas.List.Sums.{count_by-le-length}
 use Rattle.base_types.specs.declared.fraction.Fraction.{Fraction}
 use Rattle.base_types.specs.declared.posting.Posting.{Posting}
 use Rattle.lists_postings.specs.Sizes.{size}
+use Rattle.plans_partitions.specs.Counts.{Counts, Tabulates, size_between}
 use Rattle.plans_partitions.proofs.Places.{not_falling}
+use Rattle.plans_partitions.proofs.Tables.{last_is_horizon, size_is}
 use Rattle.plans_space.specs.Caps.{cap, unit, budget}
 use Rattle.plans_space.specs.Costs.{size_at, expected_cost}
 use Rattle.plans_space.specs.Loads.{weights_by}
-use Rattle.plans_space.specs.Plans.{IsFall, IsFront}
+use Rattle.plans_space.specs.Plans.{IsFront}
 use Rattle.plans_space.specs.declared.point.Point.{Point}
 use Rattle.plans_share.specs.Asked.{count_in}
 use Rattle.plans_share.specs.Offers.{IsSixteen}
@@ -38,12 +40,34 @@ piece-cost weight joins none list f h t [] up le last =
     let e : weight t h ≡ 0 = ap (λ x. weight t x) (sym last) ∙ none t in sym (ap (λ n. n * size f h list) e ∙ zero-mul (size f h list))
 piece-cost weight joins none list f h t (u ∷ times) up le last =
     let lt : t < u = up 0 (omega arith) in
-    let further : IsStrictlyIncreasing (u ∷ times) = λ k m. up (suc k) (omega (arith, m)) in
+    let further : IsStrictlyIncreasing (u ∷ times) = λ k m. (
+        let e : suc k + 1 ≡ suc (k + 1) = omega arith in
+        subst (λ i. slice_index (t ∷ u ∷ times) (suc k) < slice_index (t ∷ u ∷ times) i) e (up (suc k) (omega (arith, m)))) in
     let end : u ≤ h = omega (arith, not_falling (u ∷ times) further 0 (length times) (omega arith) (omega arith), last) in
     let rest = piece-cost weight joins none list f h u times further (omega (arith, le, lt)) last in
     let both : weight t u + weight u h ≡ weight t h = joins t u h (omega (arith, lt)) end in
     let first : weight t u * size_at list f (h ∷ []) t ≡ weight t u * size f h list = ap (λ n. weight t u * n) (inside list f h t le (omega (arith, lt, end))) in
     omega (arith, first, rest, add-mul (weight t u) (weight u h) (size f h list), ap (λ n. n * size f h list) both)
+
+-- so it costs of a list that was counted
+pub whole-costs : (weight : ℕ → ℕ → ℕ) → ((a b c : ℕ) → a ≤ b → b ≤ c → weight a b + weight b c ≡ weight a c) → ((a : ℕ) → weight a a ≡ 0) → (list : List Posting) (horizon : ℕ) (table : Counts) → Tabulates list horizon table
+    → 2 ≤ length table.boundaries → size_between table 0 (length table.boundaries - 1) ≡ length list
+    → expected_cost list (slice_index table.boundaries 0) (horizon ∷ []) table.boundaries (weights_by weight table.boundaries)
+    ≡ weight (slice_index table.boundaries 0) (slice_index table.boundaries (length table.boundaries - 1)) * length list
+whole-costs weight joins none list horizon table t many counted =
+    let times = table.boundaries in
+    let last : slice_index times (length times - 1) ≡ horizon = last_is_horizon list horizon times t.boundaries t.early in
+    let sized : size (slice_index times 0) horizon list ≡ length list =
+    ap (λ h. size (slice_index times 0) h list) (sym last) ∙ sym (size_is list horizon table t 0 (length times - 1) (omega (arith, many)) (omega (arith, many))) ∙ counted in
+    whole times many t.boundaries.ascending last ∙ ap (λ h. weight (slice_index times 0) h * size (slice_index times 0) horizon list) (sym last)
+    ∙ ap (λ n. weight (slice_index times 0) (slice_index times (length times - 1)) * n) sized
+  where
+    whole : (times : List ℕ) → 2 ≤ length times → IsStrictlyIncreasing times → slice_index times (length times - 1) ≡ horizon
+        → expected_cost list (slice_index times 0) (horizon ∷ []) times (weights_by weight times) ≡ weight (slice_index times 0) horizon * size (slice_index times 0) horizon list
+    whole [] many up last = absurd (omega (arith, many))
+    whole (u ∷ times) many up last =
+        let e : length (u ∷ times) - 1 ≡ length times = omega arith in
+        piece-cost weight joins none list u horizon u times up (omega arith) (subst (λ i. slice_index (u ∷ times) i ≡ horizon) e last)
 
 -- ---- bounds
 

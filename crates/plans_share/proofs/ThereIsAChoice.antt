@@ -1,22 +1,19 @@
 -- There is an offer for each list, and a best choice among any offers.
-use Rattle.std.specs.Prelude.{◌≡◌, ◌⊎◌, ℕ, ◌+◌, ◌-◌, ◌<◌, ◌≤◌, Option, Some, None, List, [], ◌∷◌, length, map, slice_index, replicate, sum_by, All, refl}
+use Rattle.std.specs.Prelude.{◌≡◌, ℕ, ◌+◌, ◌-◌, ◌<◌, Option, Some, None, List, [], ◌∷◌, length, map, slice_index, replicate, sum_by, All, refl}
 use Rattle.std.proofs.Common.{arith, sym, inl, inr, lit≤, lit<}
 use Rattle.std.proofs.lemmas.Bool.{cases_lt}
 use Rattle.std.proofs.lemmas.List.Elements.{All-replicate}
 use Rattle.base_types.specs.declared.fraction.Fraction.{Fraction}
-use Rattle.base_types.specs.declared.posting.Posting.{Posting}
 use Rattle.plans_partitions.proofs.Ordering.{each_has_boundaries}
 use Rattle.plans_space.specs.Caps.{cap, unit, charge}
 use Rattle.plans_space.specs.Costs.{expected_cost}
 use Rattle.plans_space.specs.Loads.{weights_by}
 use Rattle.plans_space.specs.Steps.{IsLeast, lesser, plus}
-use Rattle.plans_space.specs.declared.point.Point.{Point}
-use Rattle.plans_space.proofs.LeastLemmas.{least_by, least_either, Begins, least_behind, BeginsBelow, least_of_all, least_way}
+use Rattle.plans_space.proofs.LeastLemmas.{least_either, Begins, least_behind, BeginsBelow, least_of_all, least_way}
 use Rattle.plans_space.proofs.ThereIsABest.{each_has_a_front}
-use Rattle.plans_share.specs.Asked.{asked_in}
-use Rattle.plans_share.specs.Choices.{Offered, picked, ArePicks, total, IsEligible, IsBestChoice}
+use Rattle.plans_share.specs.Choices.{Offered, picked, ArePicks, IsEligible, IsBestChoice}
 use Rattle.plans_share.specs.Laws.{EachListHasAnOffer, EachHaveABestChoice}
-use Rattle.plans_share.specs.Offers.{IsOffer, in_units}
+use Rattle.plans_share.specs.Offers.{in_units}
 use Rattle.plans_share.specs.Steps.{IsWithin}
 use Rattle.plans_share.proofs.Cells.{cost_of}
 use Rattle.plans_share.proofs.Wholes.{are-wholes, cost-of-wholes}

@@ -85,7 +85,8 @@ impl Asked {
 
     /// The times of a word's pairs. One pass over the pairs, and time in `n log n` for the word's `n`.
     pub fn times(&self, alloc: Global, word: &Key) -> Result<Times, AllocError>
-        ensures { IfOk result (λ t. (a b : ℕ) → count_in a b t ≡ asked_in self.now word.now a b) }
+        ensures counts { IfOk result (λ t. (a b : ℕ) → count_in a b t ≡ asked_in self.now word.now a b) }
+        ensures few { IfOk result (λ t. length t ≤ 2 ^ 20) }
     {
         let seconds = self.seconds_of(alloc, word)?;
         Ok(Times {

@@ -1,5 +1,6 @@
 //! What is offered for a word, under the times that were asked for it.
-ghost use Rattle.std.specs.Prelude.{◌≡◌, ◌*◌, ◌<◌, ◌≤◌, ◌^◌, ℕ, List, [], ◌∷◌, length, map, slice_index, All, IfOk};
+ghost use Rattle.std.specs.Prelude.{◌≡◌, ◌-◌, ◌*◌, ◌<◌, ◌≤◌, ◌^◌, ℕ, List, [], ◌∷◌, length, map, slice_index, All, IfOk};
+ghost use Rattle.std.specs.List.Sorted.{IsStrictlyIncreasing};
 ghost use Rattle.base_types.specs.declared.posting.Posting.{Posting};
 ghost use Rattle.base_types.specs.declared.fraction.Fraction.{Fraction as PlainFraction};
 ghost use Rattle.plans_partitions.specs.Counts.{Tabulates};
@@ -28,11 +29,13 @@ pub fn offer_for(
     shared: Limits,
 ) -> Result<Offer, AllocError>
     requires tabulates { (list : List Posting) × (horizon : ℕ) × Tabulates list horizon table.now }
+    requires few { length times.now ≤ 2 ^ 20 }
     ensures offer { IfOk result (λ o. (list : List Posting) (horizon : ℕ) → Tabulates list horizon table.now
         → IsOffer (λ a b. count_in a b times.now) list horizon shared.unit o) }
     ensures few { IfOk result (λ o. length o.front ≤ 4097) }
     ensures cheap { IfOk result AreCheap }
 {
+    let _boundaries = table.boundaries();
     let factor = sixteen();
     let points = points_of(alloc, table, times, factor)?;
     let own = limits_of(factor, table.postings());
@@ -61,7 +64,12 @@ fn points_of(
         → IsFront list table.now.boundaries (weights_by (λ a b. count_in a b times.now) table.now.boundaries) factor
         (slice_index table.now.boundaries 0) horizon v.items) }
 {
-    let load = Load::new(|span: Span| times.count(span));
+    let load = Load::new(
+        |span: Span| -> u64
+            ensures value { result ≡ count_in span.from span.to times.entry.now }
+            ensures few { result ≤ 2 ^ 40 }
+        { times.count(span) },
+    );
     let points = front(alloc, table, factor, &load)?;
     Ok(points)
 }
@@ -102,13 +110,23 @@ fn whole(table: &Table, times: &Times, shared: Limits) -> Point
         → result.cost ≡ expected_cost list (slice_index table.now.boundaries 0) (horizon ∷ []) table.now.boundaries
         (weights_by (λ a b. count_in a b times.now) table.now.boundaries) }
 {
-    let boundaries = table.boundaries();
-    let span = Span {
-        from: boundaries[0],
-        to: boundaries[boundaries.len() - 1],
-    };
+    let span = ends_of(table.boundaries());
     Point {
         charge: charge(table.postings(), shared),
         cost: u128::from(times.count(span)) * u128::from(table.postings()),
+    }
+}
+
+/// The span from the first boundary to the last.
+fn ends_of(boundaries: &[u64]) -> Span
+    requires many { 2 ≤ length boundaries.now }
+    requires ascending { IsStrictlyIncreasing boundaries.now }
+    requires in_time { All (λ x. x < 2 ^ 40) boundaries.now }
+    ensures from { result.from ≡ slice_index boundaries.now 0 }
+    ensures to { result.to ≡ slice_index boundaries.now (length boundaries.now - 1) }
+{
+    Span {
+        from: boundaries[0],
+        to: boundaries[boundaries.len() - 1],
     }
 }

@@ -6,7 +6,7 @@ use Rattle.base_commands.specs.Documents.{HasDocument}
 use Rattle.base_commands.specs.declared.command.Command.{Command}
 use Rattle.base_commands.specs.declared.command.Item.TheVariants as items
 use Rattle.model_archive.specs.Histories.{History}
-use Rattle.model_archive.specs.Steps.{Reply, Accepted, Refused, RefusedIn, Found, Spanned, Version, Proposed, Planned, Verified}
+use Rattle.model_archive.specs.Steps.{Reply, Accepted, Refused, RefusedIn, Found, Spanned, Version, Proposed, Planned, Verified, Shared}
 use Rattle.model_archive.specs.Runs.{Outcome}
 use Rattle.model_archive.specs.Stands.{EachStands}
 use Rattle.model_archive.specs.Worlds.{World}
@@ -30,6 +30,7 @@ told_ok (RefusedIn why index) result told = absurd told
 told_ok (Found rows read) result told = (notes.Found (length rows) read, told)
 told_ok (Verified verdict) result told = (notes.Checked verdict, told)
 told_ok (Spanned rows read) result told = absurd told
+told_ok (Shared shares unit budget cost) result told = absurd told
 told_ok (Version text) result told = absurd told
 told_ok (Proposed segments nodes total) result told = absurd told
 

@@ -13,7 +13,7 @@ use Rattle.base_commands.specs.declared.command.Item.TheVariants as items
 use Rattle.base_sample.specs.Samples.{changes, plans, questions, sample_of}
 use Rattle.model_archive.specs.declared.verdict.Verdict.{Verdict}
 use Rattle.model_archive.specs.Legal.{IsLoadable}
-use Rattle.model_archive.specs.Steps.{Reply, Accepted, Refused, RefusedIn, Found, Spanned, Version, Proposed, Planned, Verified, Step}
+use Rattle.model_archive.specs.Steps.{Reply, Accepted, Refused, RefusedIn, Found, Spanned, Version, Proposed, Planned, Verified, Step, Shared}
 use Rattle.model_archive.specs.Runs.{Outcome, IsRun, state_after}
 use Rattle.model_archive.specs.Standing.{last_state}
 use Rattle.model_archive.specs.Stands.{EachStands, StandsIn}
@@ -108,6 +108,7 @@ told_verdict (RefusedIn why index) verdict is = absurd is
 told_verdict (Found rows read) verdict is = cc
 told_verdict (Verified other) verdict is = cc
 told_verdict (Spanned rows read) verdict is = absurd is
+told_verdict (Shared shares unit budget cost) verdict is = absurd is
 told_verdict (Version text) verdict is = absurd is
 told_verdict (Proposed segments nodes total) verdict is = absurd is
 
