@@ -4,6 +4,7 @@ mod TakeLemmas
 mod AnswerLemmas
 mod SpanLemmas
 mod PlanLemmas
+mod ShareLemmas
 mod LiveLemmas
 mod ChosenLemmas
 mod CacheLemmas

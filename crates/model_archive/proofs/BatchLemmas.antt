@@ -1,5 +1,5 @@
 -- A batch and its acts as entries of their own.
-use Rattle.std.specs.Prelude.{◌≡◌, ℕ, ◌+◌, nat_lt, Bool, true, false, not, List, [], ◌∷◌, ◌++◌, length, map, sum_by, Option, Some, None, refl}
+use Rattle.std.specs.Prelude.{◌≡◌, ℕ, nat_lt, Bool, true, false, not, List, [], ◌∷◌, ◌++◌, length, map, sum_by, Option, Some, None, refl}
 use Rattle.std.specs.List.{flat_map}
 use Rattle.std.specs.Option.{option_map}
 use Rattle.std.proofs.Common.{◌≤◌, sym, ap, subst, ◌∙◌, arith, append_assoc}
@@ -15,7 +15,7 @@ use Rattle.lists_versions.specs.declared.change.Change.{Change}
 use Rattle.lists_versions.specs.Tests.{first_of, when}
 use Rattle.journal_entries.specs.declared.act.Act.{Act}
 use Rattle.journal_entries.specs.declared.act.Act.TheVariants as batched
-use Rattle.journal_entries.specs.declared.entry.Entry.TheVariants.{Arrive, Delete, Batch}
+use Rattle.journal_entries.specs.declared.entry.Entry.TheVariants.{Batch}
 use Rattle.journal_entries.specs.Acts.{act_length, alone}
 use Rattle.model_archive.specs.declared.refusal.Refusal.{Refusal}
 use Rattle.model_archive.specs.declared.refusal.Refusal.TheVariants.{BatchTooLong, OldFormat}

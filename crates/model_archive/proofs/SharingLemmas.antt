@@ -1,18 +1,16 @@
 -- A budget that words share: what is told of it, and that there is such a reply; and what is noted.
-use Rattle.std.proofs.Common.{◌≡◌, ℕ, ◌+◌, ◌<◌, List, [], ◌∷◌, length, Option, Result, Ok, Err, refl, ap, sym, ◌∙◌}
+use Rattle.std.proofs.Common.{◌≡◌, ℕ, ◌+◌, List, [], ◌∷◌, refl, ap, sym, ◌∙◌}
 use Rattle.base_types.specs.declared.fraction.Fraction.{Fraction}
 use Rattle.base_types.specs.declared.posting.Posting.{Posting}
-use Rattle.base_types.specs.declared.time.Time.{Time}
 use Rattle.base_commands.specs.declared.command.Command.{Command}
 use Rattle.base_commands.specs.declared.command.Command.TheVariants as commands
-use Rattle.base_commands.specs.declared.command.Kind.TheVariants.{Guarantee, Uniform}
+use Rattle.base_commands.specs.declared.command.Kind.TheVariants.{Uniform}
 use Rattle.plans_space.specs.Caps as caps
 use Rattle.plans_share.specs.Asked.{asked_in}
 use Rattle.plans_share.specs.Choices.{Offered, total}
 use Rattle.plans_share.specs.Offers.{AreOffers, Sharer, shared_cap}
 use Rattle.plans_share.specs.declared.asked.Asking.{Asking}
 use Rattle.plans_share.proofs.ThereIsAChoice.{each_has_an_offer, each_have_a_best}
-use Rattle.query_lang.specs.Grammar.{Query}
 use Rattle.query_lang.specs.Tokens.{term_of}
 use Rattle.query_lang.proofs.ReadingLaws.{is_read, one_reading}
 use Rattle.query_lang.specs.Machine.{read}
@@ -21,8 +19,7 @@ use Rattle.model_archive.specs.declared.refusal.Refusal.{Refusal}
 use Rattle.model_archive.specs.declared.sharing.Share.{Share}
 use Rattle.model_archive.specs.declared.summary.Summary.{Summary}
 use Rattle.model_archive.specs.Histories.{History}
-use Rattle.model_archive.specs.Legal.{IsLoadable}
-use Rattle.model_archive.specs.Planning.{OfPhrase, IsListUpTo, last_second}
+use Rattle.model_archive.specs.Planning.{IsListUpTo, last_second}
 use Rattle.model_archive.specs.Sharing.{IsShared, Notes, OfPhrases, asked_with, shares_of, with_sharer}
 use Rattle.model_archive.specs.Steps.{Reply, Planned, RefusedIn, Shared, Shares}
 use Rattle.model_archive.specs.Worlds.{World}
@@ -40,7 +37,7 @@ each_noted asked (commands.Find at expr) = (asked_with asked at (read term_of ex
 each_noted asked other = (asked, refl)
 
 pub one_noted : (asked : List Asking) (c : Command) (one other : List Asking) → Notes asked c one → Notes asked c other → one ≡ other
-one_noted asked (commands.Find at expr) one other a b = a.2 ∙ ap (asked_with asked at) (one_reading term_of a.0 b.0 a.1 b.1) ∙ sym b.2
+one_noted asked (commands.Find at expr) one other a b = a.2 ∙ ap (asked_with asked at) (one_reading term_of expr a.0 b.0 a.1 b.1) ∙ sym b.2
 one_noted asked c one other a b = a ∙ sym b
 
 -- ---- a reply

@@ -3,5 +3,6 @@ mod between;
 mod cache;
 mod find;
 mod propose;
+mod share;
 mod show;
 mod top;
