@@ -1,28 +1,30 @@
 -- A budget that words share: from what is known of the phrases one by one to what is told of all.
-use Rattle.std.proofs.Common.{◌≡◌, ℕ, ◌+◌, ◌-◌, ◌<◌, ◌≤◌, List, [], ◌∷◌, ◌++◌, length, map, drop, take, All, Some, Result, Ok, Err, IfOk, refl, ap, sym, subst, ◌∙◌, arith, append_assoc}
-use Rattle.std.proofs.lemmas.List.{append-nil}
+use Rattle.std.proofs.Common.{◌≡◌, ℕ, zero, suc, ◌+◌, ◌<◌, ◌≤◌, Bool, true, false, not, cond, List, [], ◌∷◌, ◌++◌, length, map, drop, get_or, All, Result, Ok, Err, IfOk, refl, ap, sym, subst, ◌∙◌, arith}
+use Rattle.std.specs.Prelude.{bytes_eq, filter}
+use Rattle.std.proofs.Math.Seq.{drop-cons}
+use Rattle.std.proofs.lemmas.List.Elements.{All-cons, All-filter}
+use Rattle.std.proofs.lemmas.List.Sums.{count_by-le-length, length-filter}
 use Rattle.machine_model.specs.States.{DiskState}
 use Rattle.base_types.specs.declared.fraction.Fraction.{Fraction}
 use Rattle.base_types.specs.declared.posting.Posting.{Posting}
 use Rattle.base_commands.specs.declared.command.Kind.TheVariants.{Uniform}
 use Rattle.base_commands.specs.declared.command.Item.{Item}
-use Rattle.plans_space.specs.Caps as caps
-use Rattle.plans_share.specs.Choices.{Offered, IsBestChoice, total}
-use Rattle.plans_share.specs.Offers.{AreOffers, IsOffer, Sharer, shared_cap}
+use Rattle.plans_share.specs.Choices.{ArePicks, Offered, picked}
+use Rattle.plans_share.specs.Offers.{AreOffers, Sharer}
 use Rattle.plans_share.specs.declared.asked.Asking.{Asking}
 use Rattle.text_words.specs.Terms.{one_term}
 use Rattle.model_archive.specs.declared.refusal.Refusal.{Refusal}
-use Rattle.model_archive.specs.declared.sharing.Share.{Share}
 use Rattle.model_archive.specs.declared.sharing.Sharing.{Sharing}
 use Rattle.model_archive.specs.Histories.{History}
-use Rattle.model_archive.specs.Planning.{last_second}
-use Rattle.model_archive.specs.Sharing.{IsShared, OfPhrases, shares_of, with_sharer}
+use Rattle.model_archive.specs.Sharing.{OfPhrases, is_another, shares_of, with_sharer}
 use Rattle.model_archive.specs.Steps.{Reply, RefusedIn, Shared, Shares}
 use Rattle.archive_hand.specs.Sealing.{IsSealed}
 use Rattle.archive_hand.specs.States.{ArchiveState, AreInStepBy, with_reads}
 use Rattle.archive_hand.specs.Stored.{Store, StoreStep}
 use Rattle.archive_hand.specs.Takes.{Replied, Starved, TakesBy}
 use Rattle.archive_hand.proofs.PhraseLemmas.{goes_on, map_phrase}
+use Rattle.archive_hand.specs.declared.sealing.Sealed.{Sealed}
+use Rattle.archive_questions.specs.Sharers.{IsPlannable, sharer, sharers, stands_apart}
 use Rattle.archive_questions.specs.Endings.{shared}
 use Rattle.archive_questions.specs.declared.error.ShareError.{ShareError}
 use Rattle.archive_questions.specs.declared.error.ShareError.TheVariants as errors
@@ -60,6 +62,51 @@ offers_more asked horizon unit [] [] s offer are is = is
 offers_more asked horizon unit (w ∷ words) (o ∷ offers) s offer are is = (are.0, offers_more asked horizon unit words offers s offer are.1 is)
 offers_more asked horizon unit [] (o ∷ offers) s offer are is = absurd are
 offers_more asked horizon unit (w ∷ words) [] s offer are is = absurd are
+
+-- ---- words
+
+-- the words that stand apart, as they share
+apart_alike : (word : List ℕ) (rest : List Sealed) → map sharer (filter (stands_apart word) rest) ≡ filter (is_another word) (map sharer rest)
+apart_alike word [] = refl
+apart_alike word (s ∷ rest) = go (not (bytes_eq s.word word)) (apart_alike word rest)
+  where
+    go : (b : Bool) → map sharer (filter (stands_apart word) rest) ≡ filter (is_another word) (map sharer rest)
+        → map sharer (cond b (s ∷ filter (stands_apart word) rest) (filter (stands_apart word) rest)) ≡ cond b (sharer s ∷ filter (is_another word) (map sharer rest)) (filter (is_another word) (map sharer rest))
+    go true same = ap (λ (l : List Sharer). sharer s ∷ l) same
+    go false same = same
+
+pub first_alike : (first : Sealed) (rest all : List Sealed) → all ≡ first ∷ filter (stands_apart first.word) rest → sharers all ≡ with_sharer (sharer first) (sharers rest)
+first_alike first rest all is = ap sharers is ∙ ap (λ (l : List Sharer). sharer first ∷ l) (apart_alike first.word rest)
+
+pub first_plannable : (horizon : ℕ) (first : Sealed) (rest all : List Sealed) → all ≡ first ∷ filter (stands_apart first.word) rest → IsPlannable horizon first → All (IsPlannable horizon) rest → All (IsPlannable horizon) all
+first_plannable horizon first rest all is one more =
+    subst (λ (l : List Sealed). All (IsPlannable horizon) l) (sym is) (All-cons (IsPlannable horizon) first (filter (stands_apart first.word) rest) one (All-filter (stands_apart first.word) (IsPlannable horizon) rest more))
+
+pub first_few : (first : Sealed) (rest all : List Sealed) → all ≡ first ∷ filter (stands_apart first.word) rest → length all ≤ length rest + 1
+first_few first rest all is = omega (arith, ap length is, length-filter (stands_apart first.word) rest, count_by-le-length (stands_apart first.word) rest)
+
+-- ---- shares
+
+pub picks_long : (offers : List Offered) (picks : List ℕ) → ArePicks offers picks → length picks ≡ length offers
+picks_long [] [] are = refl
+picks_long (o ∷ offers) (p ∷ picks) are = omega (arith, picks_long offers picks are.1)
+picks_long [] (p ∷ picks) are = absurd are
+picks_long (o ∷ offers) [] are = absurd are
+
+pub pick_there : (offers : List Offered) (picks : List ℕ) (k : ℕ) (o : Offered) (p : ℕ) → ArePicks offers picks → k < length offers → get_or picks k p ≤ length (get_or offers k o).front
+pick_there (x ∷ offers) (y ∷ picks) zero o p are l = are.0
+pick_there (x ∷ offers) (y ∷ picks) (suc k) o p are l = pick_there offers picks k o p are.1 (omega (arith, l))
+pick_there [] picks k o p are l = absurd (omega (arith, l))
+pick_there (x ∷ offers) [] k o p are l = absurd are
+
+-- the shares from a place on are that place's and those behind it
+pub shares_next : (words : List Sealed) (offers : List Offered) (picks : List ℕ) (k : ℕ) (w : Sealed) (o : Offered) (p : ℕ) → length offers ≡ length words → length picks ≡ length offers → k < length words
+    → shares_of (sharers (drop k words)) (drop k offers) (drop k picks)
+    ≡ (record { word = (get_or words k w).word; taken = picked (get_or offers k o) (get_or picks k p) }) ∷ shares_of (sharers (drop (suc k) words)) (drop (suc k) offers) (drop (suc k) picks)
+shares_next words offers picks k w o p long same l =
+    ap (λ (x : List Sealed). shares_of (sharers x) (drop k offers) (drop k picks)) (drop-cons words k w l)
+    ∙ ap (λ (x : List Offered). shares_of (sharers (get_or words k w ∷ drop (suc k) words)) x (drop k picks)) (drop-cons offers k o (omega (arith, l, long)))
+    ∙ ap (λ (x : List ℕ). shares_of (sharers (get_or words k w ∷ drop (suc k) words)) (get_or offers k o ∷ drop (suc k) offers) x) (drop-cons picks k p (omega (arith, l, long, same)))
 
 -- ---- the end
 

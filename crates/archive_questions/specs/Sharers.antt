@@ -1,5 +1,5 @@
 -- Words with their lists, as they share a budget.
-use Rattle.std.specs.Prelude.{◌≡◌, ℕ, ◌^◌, ◌<◌, ◌≤◌, List, length, map, All}
+use Rattle.std.specs.Prelude.{◌≡◌, ℕ, ◌^◌, ◌<◌, ◌≤◌, Bool, not, bytes_eq, List, length, map, All}
 use Rattle.plans_share.specs.Offers.{Sharer}
 use Rattle.archive_hand.specs.declared.sealing.Sealed.{Sealed}
 
@@ -9,6 +9,10 @@ sharer s = record { word = s.word; list = s.list.items }
 
 abbrev pub sharers : List Sealed → List Sharer
 sharers words = map sharer words
+
+-- it is of another word
+abbrev pub stands_apart : List ℕ → Sealed → Bool
+stands_apart word s = not (bytes_eq s.word word)
 
 -- its list can be planned: it has some postings, not too many, and all of them end by the horizon
 pub record IsPlannable (horizon : ℕ) (s : Sealed) : Type 0 where

@@ -1,5 +1,5 @@
 //! How a budget is best shared among words.
-ghost use Rattle.std.specs.Prelude.{◌≡◌, ◌<◌, ◌≤◌, ◌*◌, ◌^◌, ◌+◌, ℕ, List, length, map, sum_by, All, IfOk, IsErrOf};
+ghost use Rattle.std.specs.Prelude.{◌≡◌, ◌<◌, ◌≤◌, ◌^◌, ◌+◌, ◌∷◌, ℕ, length, filter, sum_by, All, IfOk, IsErrOf};
 ghost use Rattle.machine_model.specs.States.{DiskState};
 ghost use Rattle.plans_share.specs.Asked.{asked_in};
 ghost use Rattle.plans_share.specs.Choices.{ArePicks};
@@ -7,13 +7,13 @@ ghost use Rattle.plans_share.specs.Offers.{AreOffers, IsOffer};
 ghost use Rattle.plans_share.specs.Steps.{AreCheap};
 ghost use Rattle.model_archive.specs.Histories.{History};
 ghost use Rattle.model_archive.specs.Planning.{last_second};
-ghost use Rattle.model_archive.specs.Sharing.{OfPhrases, shares_of, with_sharer};
+ghost use Rattle.model_archive.specs.Sharing.{OfPhrases, shares_of};
 ghost use Rattle.model_archive.specs.Steps.{RefusedIn, Shared, Shares};
 ghost use Rattle.archive_hand.specs.States.{StandsFor, AreInStepBy};
 ghost use Rattle.archive_hand.specs.Stored.{Store};
 ghost use Rattle.archive_hand.specs.Takes.{TakesBy};
 ghost use Rattle.archive_questions.specs.Endings.{shared};
-ghost use Rattle.archive_questions.specs.Sharers.{IsPlannable, sharer, sharers};
+ghost use Rattle.archive_questions.specs.Sharers.{IsPlannable, sharers, stands_apart};
 ghost use Rattle.base_commands.specs.declared.command.Command.TheVariants as commands;
 ghost use Rattle.base_commands.specs.declared.command.Item.TheVariants as items;
 
@@ -93,15 +93,8 @@ fn sealed_from(
 }
 
 /// A word in front of others, among which it doesn't count again.
-fn with_first(
-    alloc: Global,
-    first: Sealed,
-    rest: Vec<Sealed>,
-) -> Result<Vec<Sealed>, AllocError>
-    ensures words { IfOk result (λ v. sharers v.items ≡ with_sharer (sharer first) (sharers rest.items)) }
-    ensures plannable { (horizon : ℕ) → IsPlannable horizon first → All (IsPlannable horizon) rest.items
-        → IfOk result (λ v. All (IsPlannable horizon) v.items) }
-    ensures few { IfOk result (λ v. length v.items ≤ length rest.items + 1) }
+fn with_first(alloc: Global, first: Sealed, rest: Vec<Sealed>) -> Result<Vec<Sealed>, AllocError>
+    ensures { IfOk result (λ v. v.items ≡ first ∷ filter (stands_apart first.word) rest.items) }
 {
     let word = first.word.clone()?;
     let mut words = Vec::new(alloc);
@@ -118,7 +111,7 @@ fn with_first(
 fn postings(sealed: &[Sealed]) -> u64
     requires few { length sealed.now ≤ 16 }
     requires plannable { (horizon : ℕ) × All (IsPlannable horizon) sealed.now }
-    ensures value { result ≡ sum_by (λ s. length s.list) (sharers sealed.now) }
+    ensures value { result ≡ sum_by (λ s. length s.list.items) sealed.now }
     ensures bound { result < 2 ^ 43 }
 {
     let mut postings = 0u64;
@@ -151,12 +144,7 @@ fn offers_for(
 }
 
 /// What is offered for a word.
-fn offered(
-    alloc: Global,
-    asked: &Asked,
-    word: &Sealed,
-    limits: Limits,
-) -> Result<Offer, AllocError>
+fn offered(alloc: Global, asked: &Asked, word: &Sealed, limits: Limits) -> Result<Offer, AllocError>
     requires plannable { (horizon : ℕ) × IsPlannable horizon word.now }
     ensures offer { IfOk result (λ o. IsOffer (asked_in asked.now word.now.word) word.now.list.items word.now.horizon.seconds limits.unit o) }
     ensures few { IfOk result (λ o. length o.front ≤ 4097) }

@@ -41,8 +41,8 @@ piece-cost weight joins none list f h t [] up le last =
 piece-cost weight joins none list f h t (u ∷ times) up le last =
     let lt : t < u = up 0 (omega arith) in
     let further : IsStrictlyIncreasing (u ∷ times) = λ k m. (
-        let e : suc k + 1 ≡ suc (k + 1) = omega arith in
-        subst (λ i. slice_index (t ∷ u ∷ times) (suc k) < slice_index (t ∷ u ∷ times) i) e (up (suc k) (omega (arith, m)))) in
+    let e : suc k + 1 ≡ suc (k + 1) = omega arith in
+    subst (λ i. slice_index (t ∷ u ∷ times) (suc k) < slice_index (t ∷ u ∷ times) i) e (up (suc k) (omega (arith, m)))) in
     let end : u ≤ h = omega (arith, not_falling (u ∷ times) further 0 (length times) (omega arith) (omega arith), last) in
     let rest = piece-cost weight joins none list f h u times further (omega (arith, le, lt)) last in
     let both : weight t u + weight u h ≡ weight t h = joins t u h (omega (arith, lt)) end in
@@ -92,8 +92,8 @@ pub few-points : (list : List Posting) (times weights : List ℕ) (factor : Frac
 few-points list times weights factor f horizon points front small =
     let long = length-map points (λ (p : Point). p.charge) in
     let low : (k : ℕ) → k < length (map (λ (p : Point). p.charge) points) → slice_index (map (λ (p : Point). p.charge) points) k ≤ 4096 = λ k l.
-        let m : k < length points = omega (arith, l, long) in
-        omega (arith, points-within list times weights factor f horizon points front k (record { charge = 0; cost = 0 }) m, get_or-map (λ (p : Point). p.charge) points k (record { charge = 0; cost = 0 }) 0 m, small) in
+    let m : k < length points = omega (arith, l, long) in
+    omega (arith, points-within list times weights factor f horizon points front k (record { charge = 0; cost = 0 }) m, get_or-map (λ (p : Point). p.charge) points k (record { charge = 0; cost = 0 }) 0 m, small) in
     omega (arith, few-rising (map (λ (p : Point). p.charge) points) 4096 front.ascending low, long)
 
 pub points-cheap : (list : List Posting) (times weights : List ℕ) (factor : Fraction) (f horizon : ℕ) (points : List Point) → IsFront list times weights factor f horizon points

@@ -47,10 +47,7 @@ pub fn offer_for(
 fn sixteen() -> Fraction
     ensures { IsSixteen result }
 {
-    Fraction {
-        over: 16,
-        under: 1,
-    }
+    Fraction { over: 16, under: 1 }
 }
 
 /// The points of a word's own front.

@@ -44,8 +44,12 @@ returns-clause-few c =
     let points = c.in_ok-points.points.items in
     let count = c.postings.ensures.count list horizon t in
     let long : length c.in_ok-front.front.items ≡ length points = ap length (c.in_ok-front.ensures ∙ ap (λ (l : List Point). map (in_units c.args.shared.unit c.limits_of-own.result.unit) l) c.deref.ensures.value) ∙ length-map points _ in
-    rw c.new.ensures (omega (arith, long, few-points list _ _ c.sixteen-factor.result _ horizon points (c.in_ok-points.ensures list horizon t)
-    (omega (arith, c.limits_of-own.result.few, c.limits_of-own.ensures.budget ∙ ap (λ n. budget (cap c.sixteen-factor.result n)) count))))
+    rw c.new.ensures (omega (
+      arith,
+      long,
+      few-points list _ _ c.sixteen-factor.result _ horizon points (c.in_ok-points.ensures list horizon t)
+          (omega (arith, c.limits_of-own.result.few, c.limits_of-own.ensures.budget ∙ ap (λ n. budget (cap c.sixteen-factor.result n)) count)),
+    ))
 
 pub returns-clause-cheap : goal.returns-clause-cheap
 returns-clause-cheap c =
