@@ -36,16 +36,25 @@ use Rattle.model_archive.specs.Histories.{History, text_at}
 use Rattle.model_archive.specs.Holding.{HoldsPlan, HoldsPlans}
 use Rattle.model_archive.specs.Plans.{live_extents}
 use Rattle.model_archive.specs.Rough.{IsMadeRough}
+use Rattle.model_archive.specs.Sharing.{Notes}
 use Rattle.model_archive.specs.Stands.{bodies_of}
-use Rattle.model_archive.specs.Steps.{Reply, Accepted, Found, FoundBest, Planned, Neared, Refused, Spanned, Verified, Version, BestsBy, Approximates, CarriesOut, Certifies, IsNoDisjunction, IsReplied, IsRepliedBy, Proposes}
+use Rattle.model_archive.specs.Steps.{Reply, Accepted, Found, FoundBest, Planned, Neared, Refused, Spanned, Verified, Version, BestsBy, Approximates, CarriesOut, Certifies, IsNoDisjunction, IsReplied, IsRepliedBy, Proposes, Shares}
+use Rattle.model_archive.specs.Worlds.{World}
+use Rattle.plans_share.specs.declared.asked.Asking.{Asking}
 use Rattle.archive_check.specs.Checked.{IsChecked}
 
--- an archive by what reads give: its history, the bytes of Pages, the pieces of pages that it keeps, and how many bytes of Pages were read
+-- an archive by what reads give: its history, what was asked, the bytes of Pages, the pieces of pages that it keeps, and how many bytes of Pages were
+-- read
 pub record Store : Type 0 where
   pub history : History
+  pub asked : List Asking
   pub pages : List ℕ
   pub kept : List Kept
   pub read : ℕ
+
+-- the state of the abstract archive that it is
+abbrev pub world_by : Store → World
+world_by store = record { history = store.history; asked = store.asked }
 
 -- an extent lies inside these pages, and has the bytes there that it has in those
 abbrev pub HasSame : List ℕ → List ℕ → Extent → Type 0
@@ -61,15 +70,16 @@ abbrev pub EachStandsBy : DiskState → Store → Type 0
 EachStandsBy d store = (image : Bytes) → MayLeave d.now image → StandsBy store image
 
 -- What a change or a plan leaves in Pages: each live place has the bytes that it had, no two places share a page that are live then, and those of a
--- plan that was stored hold its sublists.
+-- plan that was stored hold its sublists. Nothing is asked by it.
 pub record Stocks (old new : Store) : Type 0 where
   pub same : All (HasSame old.pages new.pages) (live_extents old.history)
   pub apart : AreApart (live_extents new.history)
   pub held : (plan : PlanEntry) → new.history ≡ old.history ++ entries.Planned plan ∷ [] → HoldsPlan new.history new.pages plan
+  pub asked : new.asked ≡ old.asked
 
 -- a change or a plan is carried out on the history as the machine says
 abbrev pub Changes : Store → Command → Reply → Store → Type 0
-Changes old command reply new = CarriesOut old.history command reply new.history × Stocks old new
+Changes old command reply new = CarriesOut old.asked old.history command reply new.history × Stocks old new
 
 -- what is found by a query at a time, by the lists that are chosen
 abbrev pub MakesAt : Store → Time → Query → Reply → Type 0
@@ -129,6 +139,11 @@ abbrev pub AnswersBest : Bool → Store → BestCount → Time → List ℕ → 
 AnswersBest true old count at text reply new = Answers (MakesBest old count at) old at.seconds (at.seconds + 1) text reply new
 AnswersBest false old count at text reply new = (new ≡ old) × IsReplied IsNoDisjunction text reply
 
+-- the same of a question that is noted: what else it changes is as of any question
+abbrev pub AnswersAndNotes : (Query → Reply → Type 0) → Store → Time → List ℕ → Reply → Store → Type 0
+AnswersAndNotes Makes old at text reply new = Answers Makes old at.seconds (at.seconds + 1) text reply (record new { asked = old.asked })
+    × Notes old.asked (commands.Find at text) new.asked
+
 -- nothing changes but how many bytes were read
 abbrev pub ReadsOn : Store → Store → Type 0
 ReadsOn old new = new ≡ record old { read = new.read }
@@ -141,7 +156,7 @@ StoreStep old (items.Command (commands.Delete doc at)) reply new = Changes old (
 StoreStep old (items.Command commands.Format) reply new = Changes old commands.Format reply new
 StoreStep old (items.Command (commands.Batch batch)) reply new = Changes old (commands.Batch batch) reply new
 StoreStep old (items.Command (commands.Plan word kind fraction)) reply new = Changes old (commands.Plan word kind fraction) reply new
-StoreStep old (items.Command (commands.Find at expr)) reply new = Answers (MakesAt old at) old at.seconds (at.seconds + 1) expr reply new
+StoreStep old (items.Command (commands.Find at expr)) reply new = AnswersAndNotes (MakesAt old at) old at expr reply new
 StoreStep old (items.Command (commands.Top count at expr)) reply new = Answers (MakesTop old count at) old at.seconds
     (at.seconds + 1) expr reply new
 StoreStep old (items.Command (commands.Rough tolerance at expr)) reply new =
@@ -153,6 +168,8 @@ StoreStep old (items.Command (commands.Show doc at)) reply new = ReadsOn old new
 StoreStep old (items.Command (commands.Propose word fraction)) reply new = (new ≡ old) × Proposes old.history word fraction reply
 StoreStep old (items.Command (commands.Certificate word)) reply new = (new ≡ old) × Certifies old.history word reply
 StoreStep old (items.Command commands.Verify) reply new = ReadsOn old new × TellsVerdict old reply
+StoreStep old (items.Command (commands.Share factor words)) reply new = (new ≡ old)
+    × Shares old.asked old.history words factor.fraction reply
 StoreStep old other reply new = (new ≡ old) × (reply ≡ Refused refusals.Line)
 
 -- the history and the bytes of Pages are the same

@@ -5,6 +5,7 @@ mod AnswerLemmas
 mod RoughLemmas
 mod SpanLemmas
 mod PlanLemmas
+mod ShareLemmas
 mod LiveLemmas
 mod ChosenLemmas
 mod CacheLemmas

@@ -3,3 +3,4 @@ pub mod Answering
 pub mod After
 pub mod Endings
 pub mod Bests
+pub mod Sharers

@@ -74,8 +74,8 @@ impl ReplyPage {
         self.put(b"\n");
     }
 
-    /// Writes the reply to a batch that is refused for its item of this number, from 1, in place of
-    /// what the page held. It takes no memory. Constant cost.
+    /// Writes the reply to a batch that is refused for its item of this number, from 1, or to a line that is
+    /// refused for its word of this number, in place of what the page held. It takes no memory. Constant cost.
     pub fn refused_in(&mut self, refusal: Refusal, index: u32)
         ensures { self.new.bytes ≡ reply_text (RefusedIn refusal index) }
     {
@@ -398,9 +398,18 @@ impl ReplyPage {
         let Some(cost) = cost else {
             return;
         };
+        self.put_wide(b" cost ", cost);
+    }
+
+    /// Adds a name and a number of up to 128 bits behind it, in decimal. It takes no memory. Constant cost.
+    pub(crate) fn put_wide(&mut self, name: &[u8], n: u128)
+        requires { length name.now + 39 ≤ self.old.room }
+        ensures bytes { self.new.bytes ≡ self.old.bytes ++ name.now ++ decimal n }
+        ensures room { self.old.room ≤ self.new.room + (length name.now + 39) }
+    {
+        self.put(name);
         let mut buffer = Buffer::new();
-        self.put(b" cost ");
-        self.put(buffer.format(cost).as_bytes());
+        self.put(buffer.format(n).as_bytes());
     }
 
     /// Adds a name and a number behind it. It takes no memory. Constant cost.

@@ -6,6 +6,7 @@ pub mod HoldLemmas
 pub mod StandsLemmas
 pub mod RefusalLemmas
 mod PlanningLemmas
+mod SharingLemmas
 pub mod StoringLemmas
 mod ToldLemmas
 pub mod Sorting

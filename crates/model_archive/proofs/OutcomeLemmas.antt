@@ -69,7 +69,7 @@ use Rattle.base_commands.specs.declared.text.Text.TheVariants as texts
 use Rattle.model_archive.specs.declared.summary.Summary.{Summary}
 use Rattle.model_archive.specs.Steps.{Reply, Accepted, Refused, Found, FoundBest, Spanned, Version, Proposed, Planned, Verified, Adds, Declines, IsRepliedBy, IsReplied, Finds, FindsBy, Tops, TopsBy, Bests, BestsBy, IsNoDisjunction, Neared, NearsBy, Spans, SpansBy, Proposes, ProposesPlan, Plans, StoresPlan, spelled_key, CarriesOut, Step, too_long, bad_text, full_journal, arrival_refusal, deletion_refusal, mark_refusal}
 use Rattle.model_archive.specs.Runs.{Outcome, IsRun}
-use Rattle.model_archive.specs.Worlds.{World, world_of}
+use Rattle.model_archive.specs.Worlds.{World}
 use Rattle.model_archive.proofs.HistoryLemmas.{legal-push, loadable-push, entry_loads}
 use Rattle.model_archive.proofs.BestLemmas.{each_sheets, found_by_blocks, one_zip}
 use Rattle.model_archive.proofs.BatchLemmas.{none_found}
@@ -79,8 +79,10 @@ use Rattle.model_archive.proofs.StoringLemmas.{plan_outcome, plans_keep}
 use Rattle.model_archive.proofs.ToldLemmas.{plans_alike}
 use Rattle.model_archive.proofs.CertifyingLemmas.{each_certifies, one_certifies}
 use Rattle.model_archive.proofs.VerifyLemmas.{each_verdict, one_verdict}
+use Rattle.plans_share.specs.declared.asked.Asking.{Asking}
+use Rattle.model_archive.proofs.SharingLemmas.{each_noted, each_shares, one_noted, one_world, shares_nothing}
 use Rattle.model_archive.proofs.PlanningLemmas.{each_phrase, one_phrase, last_in_time}
-use Rattle.model_archive.specs.Choices.{IsChoice, IsStoring, SameButChosen, SameButOpened, SamePlanned}
+use Rattle.model_archive.specs.Choices.{IsChoice, IsSharing, IsStoring, SameButChosen, SameButOpened, SamePlanned}
 use Rattle.model_archive.specs.Planning.{last_second, IsListUpTo}
 
 -- an entry that isn't refused is legal
@@ -285,16 +287,16 @@ each_plans h phrase kind factor loads =
 declines_outcome : (h : History) (why : Refusal) → (outcome : Outcome Reply History) × Declines h why outcome.reply outcome.next
 declines_outcome h why = (record { reply = Refused why; next = h }, (refl, refl))
 
-each_command : (h : History) (c : Command) → IsLoadable h → (outcome : Outcome Reply History) × CarriesOut h c outcome.reply outcome.next
-each_command h (commands.Arrive doc at (texts.Bytes text)) loads = adds_outcome h (entries.Arrive doc at text) (arrival_refusal h doc at text)
-each_command h (commands.Arrive doc at (texts.TooLong bytes)) loads = declines_outcome h (refusals.TooLong most_text)
-each_command h (commands.Delete doc at) loads = adds_outcome h (entries.Delete doc at) (deletion_refusal h doc at)
-each_command h commands.Format loads = adds_outcome h entries.Format (mark_refusal h)
-each_command h (commands.Batch batch) loads = each_batch h batch
-each_command h (commands.Find at expr) loads =
+each_command : (asked : List Asking) (h : History) (c : Command) → IsLoadable h → (outcome : Outcome Reply History) × CarriesOut asked h c outcome.reply outcome.next
+each_command asked h (commands.Arrive doc at (texts.Bytes text)) loads = adds_outcome h (entries.Arrive doc at text) (arrival_refusal h doc at text)
+each_command asked h (commands.Arrive doc at (texts.TooLong bytes)) loads = declines_outcome h (refusals.TooLong most_text)
+each_command asked h (commands.Delete doc at) loads = adds_outcome h (entries.Delete doc at) (deletion_refusal h doc at)
+each_command asked h commands.Format loads = adds_outcome h entries.Format (mark_refusal h)
+each_command asked h (commands.Batch batch) loads = each_batch h batch
+each_command asked h (commands.Find at expr) loads =
     let found = each_finds h at expr loads in
     (record { reply = found.0; next = h }, (refl, found.1))
-each_command h (commands.Top count at expr) loads =
+each_command asked h (commands.Top count at expr) loads =
     let tops = each_tops h count at expr loads in (record { reply = tops.0; next = h }, (refl, tops.1))
 each_command h (commands.Approx word tolerance) loads =
     let told = each_approximates h word tolerance (λ w. each_word_list h w loads) in (record { reply = told.0; next = h }, (refl, told.1))
@@ -302,29 +304,30 @@ each_command h (commands.Rough tolerance at expr) loads =
     let near = each_text (NearsBy h tolerance at) (each_neared h tolerance at loads) expr in (record { reply = near.0; next = h }, (refl, near.1))
 each_command h (commands.Best count at expr) loads =
     let bests = each_bests h count at expr loads in (record { reply = bests.0; next = h }, (refl, bests.1))
-each_command h (commands.Show doc at) loads = (record { reply = Version (text_at h doc at.seconds); next = h }, (refl, refl))
-each_command h (commands.Plan word kind fraction) loads = each_plans h word kind fraction loads
-each_command h (commands.Propose word fraction) loads =
+each_command asked h (commands.Show doc at) loads = (record { reply = Version (text_at h doc at.seconds); next = h }, (refl, refl))
+each_command asked h (commands.Plan word kind fraction) loads = each_plans h word kind fraction loads
+each_command asked h (commands.Propose word fraction) loads =
     let proposed = each_proposes h word fraction loads in
     (record { reply = proposed.0; next = h }, (refl, proposed.1))
-each_command h (commands.Between span expr) loads =
+each_command asked h (commands.Between span expr) loads =
     let found = each_spans h span expr loads in
     (record { reply = found.0; next = h }, (refl, found.1))
-each_command h (commands.Certificate word) loads =
+each_command asked h (commands.Certificate word) loads =
     let certified = each_certifies h word loads in
     (record { reply = certified.0; next = h }, (refl, certified.1))
-each_command h commands.Verify loads =
+each_command asked h commands.Verify loads =
     let (verdict, verifies) = each_verdict h loads in
     (record { reply = Verified verdict; next = h }, (refl, (verdict, verifies, refl)))
-each_command h to_come loads = declines_outcome h refusals.Line
-
--- what came of a history, as the state that has it
-in_world : (P : Reply → History → Type 0) → (outcome : Outcome Reply History) × P outcome.reply outcome.next → (outcome : Outcome Reply World) × P outcome.reply outcome.next.history
-in_world P came = (record { reply = came.0.reply; next = world_of came.0.next }, came.1)
+each_command asked h (commands.Share factor words) loads =
+    let told = each_shares asked h words factor.fraction (λ word. each_list_up_to h word (last_second h) (last_in_time h) loads) in (record { reply = told.0; next = h }, (refl, told.1))
+each_command asked h to_come loads = declines_outcome h refusals.Line
 
 pub each_outcome : (w : World) (item : Item) → IsLoadable w.history → (outcome : Outcome Reply World) × Step w item outcome.reply outcome.next
-each_outcome w (items.Command c) loads = in_world (CarriesOut w.history c) (each_command w.history c loads)
-each_outcome w items.Line loads = in_world (Declines w.history refusals.Line) (declines_outcome w.history refusals.Line)
+each_outcome w (items.Command c) loads =
+    let came = each_command w.asked w.history c loads in
+    let noted = each_noted w.asked c in
+    (record { reply = came.0.reply; next = record { history = came.0.next; asked = noted.0 } }, (came.1, noted.1))
+each_outcome w items.Line loads = (record { reply = Refused refusals.Line; next = w }, ((refl, refl), refl))
 
 -- and what is so of a history, and stays so with a legal entry more, is so of what a command leads to
 adds_keep : (P : History → Type 0) → ((h : History) (e : Entry) → P h → IsLegalEntry h e → P (h ++ e ∷ []))
@@ -336,34 +339,35 @@ stays : (P : History → Type 0) (h next : History) → P h → next ≡ h → P
 stays P h next is same = subst P (sym same) is
 
 pub command_keeps : (P : History → Type 0) → ((h : History) (e : Entry) → P h → IsLegalEntry h e → P (h ++ e ∷ []))
-    → (h : History) (c : Command) (reply : Reply) (next : History) → P h → HasDocument (items.Command c) → CarriesOut h c reply next → P next
-command_keeps P push h (commands.Arrive doc at (texts.Bytes text)) reply next is range step = adds_keep P push h (entries.Arrive doc at text) (arrival_refusal h doc at text) reply next is (arrival_legal h doc at text range) step
-command_keeps P push h (commands.Arrive doc at (texts.TooLong bytes)) reply next is range step = stays P h next is step.0
-command_keeps P push h (commands.Delete doc at) reply next is range step = adds_keep P push h (entries.Delete doc at) (deletion_refusal h doc at) reply next is (deletion_legal h doc at range) step
-command_keeps P push h commands.Format reply next is range step = adds_keep P push h entries.Format (mark_refusal h) reply next is (mark_legal h) step
-command_keeps P push h (commands.Batch batch) reply next is range step = batches_keep P push h batch reply next is range step
-command_keeps P push h (commands.Find at expr) reply next is range step = stays P h next is step.0
-command_keeps P push h (commands.Top count at expr) reply next is range step = stays P h next is step.0
-command_keeps P push h (commands.Approx word tolerance) reply next is range step = stays P h next is step.0
-command_keeps P push h (commands.Rough tolerance at expr) reply next is range step = stays P h next is step.0
-command_keeps P push h (commands.Best count at expr) reply next is range step = stays P h next is step.0
-command_keeps P push h (commands.Show doc at) reply next is range step = stays P h next is step.0
-command_keeps P push h (commands.Plan word kind fraction) reply next is range step = plans_keep P push h word kind fraction reply next is step
-command_keeps P push h (commands.Propose word fraction) reply next is range step = stays P h next is step.0
-command_keeps P push h (commands.Between span expr) reply next is range step = stays P h next is step.0
-command_keeps P push h (commands.Certificate word) reply next is range step = stays P h next is step.0
-command_keeps P push h commands.Verify reply next is range step = stays P h next is step.0
-command_keeps P push h to_come reply next is range step = stays P h next is step.0
+    → (asked : List Asking) (h : History) (c : Command) (reply : Reply) (next : History) → P h → HasDocument (items.Command c) → CarriesOut asked h c reply next → P next
+command_keeps P push asked h (commands.Arrive doc at (texts.Bytes text)) reply next is range step = adds_keep P push h (entries.Arrive doc at text) (arrival_refusal h doc at text) reply next is (arrival_legal h doc at text range) step
+command_keeps P push asked h (commands.Arrive doc at (texts.TooLong bytes)) reply next is range step = stays P h next is step.0
+command_keeps P push asked h (commands.Delete doc at) reply next is range step = adds_keep P push h (entries.Delete doc at) (deletion_refusal h doc at) reply next is (deletion_legal h doc at range) step
+command_keeps P push asked h commands.Format reply next is range step = adds_keep P push h entries.Format (mark_refusal h) reply next is (mark_legal h) step
+command_keeps P push asked h (commands.Batch batch) reply next is range step = batches_keep P push h batch reply next is range step
+command_keeps P push asked h (commands.Find at expr) reply next is range step = stays P h next is step.0
+command_keeps P push asked h (commands.Top count at expr) reply next is range step = stays P h next is step.0
+command_keeps P push asked h (commands.Approx word tolerance) reply next is range step = stays P h next is step.0
+command_keeps P push asked h (commands.Rough tolerance at expr) reply next is range step = stays P h next is step.0
+command_keeps P push asked h (commands.Best count at expr) reply next is range step = stays P h next is step.0
+command_keeps P push asked h (commands.Show doc at) reply next is range step = stays P h next is step.0
+command_keeps P push asked h (commands.Plan word kind fraction) reply next is range step = plans_keep P push h word kind fraction reply next is step
+command_keeps P push asked h (commands.Propose word fraction) reply next is range step = stays P h next is step.0
+command_keeps P push asked h (commands.Between span expr) reply next is range step = stays P h next is step.0
+command_keeps P push asked h (commands.Certificate word) reply next is range step = stays P h next is step.0
+command_keeps P push asked h commands.Verify reply next is range step = stays P h next is step.0
+command_keeps P push asked h (commands.Share factor words) reply next is range step = stays P h next is step.0
+command_keeps P push asked h to_come reply next is range step = stays P h next is step.0
 
 -- so every outcome leads from a legal history to a legal one,
 pub step_legal : (w : World) (item : Item) (reply : Reply) (next : World) → IsLegal w.history → HasDocument item → Step w item reply next → IsLegal next.history
-step_legal w (items.Command c) reply next legal range step = command_keeps IsLegal legal-push w.history c reply next.history legal range step
-step_legal w items.Line reply next legal range step = stays IsLegal w.history next.history legal step.0
+step_legal w (items.Command c) reply next legal range step = command_keeps IsLegal legal-push w.asked w.history c reply next.history legal range step.0
+step_legal w items.Line reply next legal range step = stays IsLegal w.history next.history legal step.0.0
 
 -- and from one that loads to one that loads
 pub step_loads : (w : World) (item : Item) (reply : Reply) (next : World) → IsLoadable w.history → HasDocument item → Step w item reply next → IsLoadable next.history
-step_loads w (items.Command c) reply next loads range step = command_keeps IsLoadable (λ h e is legal. loadable-push h e is (entry_loads h e legal)) w.history c reply next.history loads range step
-step_loads w items.Line reply next loads range step = stays IsLoadable w.history next.history loads step.0
+step_loads w (items.Command c) reply next loads range step = command_keeps IsLoadable (λ h e is legal. loadable-push h e is (entry_loads h e legal)) w.asked w.history c reply next.history loads range step.0
+step_loads w items.Line reply next loads range step = stays IsLoadable w.history next.history loads step.0.0
 
 -- a run goes on over any items whose documents are in range
 pub run_on : (w : World) (events : List Item) → IsLoadable w.history → All HasDocument events → (outcomes : List (Outcome Reply World)) × IsRun Step w events outcomes
@@ -506,36 +510,42 @@ one_declines h why reply other next then a b = one_stays h reply other next then
 same_outcome : {reply other : Reply} {next then : World} → (reply ≡ other) × (next ≡ then) → SameButChosen reply other × (next ≡ then)
 same_outcome one = (inl one.0, one.1)
 
-one_command : (h : History) (c : Command) (reply other : Reply) (next then : History) → (IsChoice (items.Command c) → ⊥) → CarriesOut h c reply next → CarriesOut h c other then → IsOne reply other next then
-one_command h (commands.Arrive doc at (texts.Bytes text)) reply other next then free a b = one_adds h (entries.Arrive doc at text) (arrival_refusal h doc at text) reply other next then a b
-one_command h (commands.Arrive doc at (texts.TooLong bytes)) reply other next then free a b = one_declines h (refusals.TooLong most_text) reply other next then a b
-one_command h (commands.Delete doc at) reply other next then free a b = one_adds h (entries.Delete doc at) (deletion_refusal h doc at) reply other next then a b
-one_command h commands.Format reply other next then free a b = one_adds h entries.Format (mark_refusal h) reply other next then a b
-one_command h (commands.Batch batch) reply other next then free a b = one_batch h batch reply other next then a b
-one_command h (commands.Find at expr) reply other next then free a b = one_stays h reply other next then a.0 b.0 (one_finds h at expr reply other a.1 b.1)
-one_command h (commands.Top count at expr) reply other next then free a b = one_stays h reply other next then a.0 b.0 (one_tops h count at expr reply other a.1 b.1)
-one_command h (commands.Approx word tolerance) reply other next then free a b = one_stays h reply other next then a.0 b.0 (one_approximates h word tolerance reply other a.1 b.1)
-one_command h (commands.Rough tolerance at expr) reply other next then free a b = one_stays h reply other next then a.0 b.0 (one_text (NearsBy h tolerance at) (one_neared h tolerance at) expr reply other a.1 b.1)
-one_command h (commands.Show doc at) reply other next then free a b = one_stays h reply other next then a.0 b.0 (a.1 ∙ sym b.1)
-one_command h (commands.Plan word kind fraction) reply other next then free a b = absurd (free tt)
-one_command h (commands.Propose word fraction) reply other next then free a b = absurd (free tt)
-one_command h (commands.Best count at expr) reply other next then free a b = absurd (free tt)
-one_command h (commands.Between span expr) reply other next then free a b = one_stays h reply other next then a.0 b.0 (one_spans h span expr reply other a.1 b.1)
-one_command h (commands.Certificate word) reply other next then free a b = one_stays h reply other next then a.0 b.0 (one_certifies h word reply other a.1 b.1)
-one_command h commands.Verify reply other next then free a b =
+one_command : (asked : List Asking) (h : History) (c : Command) (reply other : Reply) (next then : History) → (IsChoice (items.Command c) → ⊥) → CarriesOut asked h c reply next → CarriesOut asked h c other then → IsOne reply other next then
+one_command asked h (commands.Arrive doc at (texts.Bytes text)) reply other next then free a b = one_adds h (entries.Arrive doc at text) (arrival_refusal h doc at text) reply other next then a b
+one_command asked h (commands.Arrive doc at (texts.TooLong bytes)) reply other next then free a b = one_declines h (refusals.TooLong most_text) reply other next then a b
+one_command asked h (commands.Delete doc at) reply other next then free a b = one_adds h (entries.Delete doc at) (deletion_refusal h doc at) reply other next then a b
+one_command asked h commands.Format reply other next then free a b = one_adds h entries.Format (mark_refusal h) reply other next then a b
+one_command asked h (commands.Batch batch) reply other next then free a b = one_batch h batch reply other next then a b
+one_command asked h (commands.Find at expr) reply other next then free a b = one_stays h reply other next then a.0 b.0 (one_finds h at expr reply other a.1 b.1)
+one_command asked h (commands.Top count at expr) reply other next then free a b = one_stays h reply other next then a.0 b.0 (one_tops h count at expr reply other a.1 b.1)
+one_command asked h (commands.Approx word tolerance) reply other next then free a b = one_stays h reply other next then a.0 b.0 (one_approximates h word tolerance reply other a.1 b.1)
+one_command asked h (commands.Rough tolerance at expr) reply other next then free a b = one_stays h reply other next then a.0 b.0 (one_text (NearsBy h tolerance at) (one_neared h tolerance at) expr reply other a.1 b.1)
+one_command asked h (commands.Best count at expr) reply other next then free a b = absurd (free tt)
+one_command asked h (commands.Show doc at) reply other next then free a b = one_stays h reply other next then a.0 b.0 (a.1 ∙ sym b.1)
+one_command asked h (commands.Plan word kind fraction) reply other next then free a b = absurd (free tt)
+one_command asked h (commands.Propose word fraction) reply other next then free a b = absurd (free tt)
+one_command asked h (commands.Between span expr) reply other next then free a b = one_stays h reply other next then a.0 b.0 (one_spans h span expr reply other a.1 b.1)
+one_command asked h (commands.Certificate word) reply other next then free a b = one_stays h reply other next then a.0 b.0 (one_certifies h word reply other a.1 b.1)
+one_command asked h commands.Verify reply other next then free a b =
     one_stays h reply other next then a.0 b.0 (a.1.2 ∙ ap Verified (one_verdict h a.1.0 b.1.0 a.1.1 b.1.1) ∙ sym b.1.2)
-one_command h to_come reply other next then free a b = one_declines h refusals.Line reply other next then a b
+one_command asked h (commands.Share factor words) reply other next then free a b = absurd (free tt)
+one_command asked h to_come reply other next then free a b = one_declines h refusals.Line reply other next then a b
 
 pub one_outcome_only : (w : World) (item : Item) (reply other : Reply) (next then : World) → (IsChoice item → ⊥) → Step w item reply next → Step w item other then → (reply ≡ other) × (next ≡ then)
-one_outcome_only w (items.Command c) reply other next then free a b = let one = one_command w.history c reply other next.history then.history free a b in (one.0, ap world_of one.1)
-one_outcome_only w items.Line reply other next then free a b = let one = one_declines w.history refusals.Line reply other next.history then.history a b in (one.0, ap world_of one.1)
+one_outcome_only w (items.Command c) reply other next then free a b =
+    let one = one_command w.asked w.history c reply other next.history then.history free a.0 b.0 in (one.0, one_world one.1 (one_noted w.asked c next.asked then.asked a.1 b.1))
+one_outcome_only w items.Line reply other next then free a b =
+    let one = one_declines w.history refusals.Line reply other next.history then.history a.0 b.0 in (one.0, one_world one.1 (a.1 ∙ sym b.1))
 
 -- also where it may choose what is proposed, but for the segments, and which blocks are opened, but for their number
-pub one_but_chosen : (w : World) (item : Item) (reply other : Reply) (next then : World) → (IsStoring item → ⊥) → Step w item reply next → Step w item other then → SameButChosen reply other × (next ≡ then)
-one_but_chosen w (items.Command (commands.Propose word fraction)) reply other next then free a b = (one_proposes w.history word fraction reply other a.1 b.1, ap world_of (a.0 ∙ sym b.0))
-one_but_chosen w (items.Command (commands.Best count at expr)) reply other next then free a b = (one_bests w.history count at expr (asks_for_any expr) reply other a.1 b.1, ap world_of (a.0 ∙ sym b.0))
-one_but_chosen w (items.Command (commands.Plan word kind fraction)) reply other next then free a b = absurd (free tt)
-one_but_chosen w item reply other next then free a b = same_outcome (one_outcome_only w item reply other next then (λ x. x) a b)
+pub one_but_chosen : (w : World) (item : Item) (reply other : Reply) (next then : World) → (IsStoring item → ⊥) → (IsSharing item → ⊥) → Step w item reply next → Step w item other then → SameButChosen reply other × (next ≡ then)
+one_but_chosen w (items.Command (commands.Propose word fraction)) reply other next then free unshared a b =
+    (one_proposes w.history word fraction reply other a.0.1 b.0.1, one_world (a.0.0 ∙ sym b.0.0) (a.1 ∙ sym b.1))
+one_but_chosen w (items.Command (commands.Best count at expr)) reply other next then free unshared a b =
+    (one_bests w.history count at expr (asks_for_any expr) reply other a.0.1 b.0.1, one_world (a.0.0 ∙ sym b.0.0) (a.1 ∙ sym b.1))
+one_but_chosen w (items.Command (commands.Plan word kind fraction)) reply other next then free unshared a b = absurd (free tt)
+one_but_chosen w (items.Command (commands.Share factor words)) reply other next then free unshared a b = absurd (unshared tt)
+one_but_chosen w item reply other next then free unshared a b = same_outcome (one_outcome_only w item reply other next then (λ x. x) a b)
 
 -- what is told of two plans that an item may store
 told_same : {one other : Summary} {next then : World} → SameButChosen (Planned one) (Planned other) × (next ≡ then) → SamePlanned one other
@@ -552,5 +562,6 @@ told_same {one = one} (inr (inl (segments, others, nodes, total, is, are)), on) 
 told_same {one = one} (inr (inr (rows, read, opened, others, blocks, is, are)), on) = absurd cc
 
 pub planned_alike : (w : World) (item : Item) (one other : Summary) (next then : World) → Step w item (Planned one) next → Step w item (Planned other) then → SamePlanned one other
-planned_alike w (items.Command (commands.Plan word kind fraction)) one other next then a b = plans_alike w.history word kind fraction one other next.history then.history a b
-planned_alike w item one other next then a b = told_same (one_but_chosen w item (Planned one) (Planned other) next then (λ x. x) a b)
+planned_alike w (items.Command (commands.Plan word kind fraction)) one other next then a b = plans_alike w.history word kind fraction one other next.history then.history a.0 b.0
+planned_alike w (items.Command (commands.Share factor words)) one other next then a b = absurd (shares_nothing w.asked w.history words factor.fraction one a.0.1)
+planned_alike w item one other next then a b = told_same (one_but_chosen w item (Planned one) (Planned other) next then (λ x. x) (λ x. x) a b)

@@ -1,4 +1,5 @@
--- What the abstract archive is free to choose: which least plan it proposes, which least or best plan it stores, and how many blocks it opens.
+-- What the abstract archive is free to choose: which least plan it proposes, which least or best plan it stores, how many blocks it opens, and which best
+-- choice it tells of words that share a budget.
 use Rattle.std.specs.Prelude.{◌≡◌, ◌⊎◌, ℕ, List, None}
 use Rattle.base_commands.specs.declared.command.Command.TheVariants as commands
 use Rattle.base_commands.specs.declared.command.Item.{Item}
@@ -9,17 +10,23 @@ use Rattle.query_eval.specs.declared.answer.Row.{Row}
 use Rattle.model_archive.specs.declared.summary.Summary.{Summary}
 use Rattle.model_archive.specs.Steps.{Reply, FoundBest, Proposed}
 
--- the item asks for a plan, to be proposed or to be stored, or for rows by blocks: only such an item may have several outcomes
+-- the item asks for a plan, to be proposed or to be stored, for rows by blocks, or for a budget to be shared: only such an item may have several outcomes
 abbrev pub IsChoice : Item → Type 0
 IsChoice (items.Command (commands.Propose word fraction)) = Unit {0}
 IsChoice (items.Command (commands.Plan word kind fraction)) = Unit {0}
 IsChoice (items.Command (commands.Best count at expr)) = Unit {0}
+IsChoice (items.Command (commands.Share factor words)) = Unit {0}
 IsChoice other = ⊥
 
 -- the item asks for a plan to be stored
 abbrev pub IsStoring : Item → Type 0
 IsStoring (items.Command (commands.Plan word kind fraction)) = Unit {0}
 IsStoring other = ⊥
+
+-- the item asks for a budget to be shared
+abbrev pub IsSharing : Item → Type 0
+IsSharing (items.Command (commands.Share factor words)) = Unit {0}
+IsSharing other = ⊥
 
 -- the replies are two proposals that differ in their segments alone
 abbrev pub SameButSegments : Reply → Reply → Type 0

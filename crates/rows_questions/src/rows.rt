@@ -5,5 +5,6 @@ mod cache;
 mod find;
 mod propose;
 mod rough;
+mod share;
 mod show;
 mod top;
