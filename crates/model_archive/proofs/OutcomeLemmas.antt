@@ -298,11 +298,11 @@ each_command asked h (commands.Find at expr) loads =
     (record { reply = found.0; next = h }, (refl, found.1))
 each_command asked h (commands.Top count at expr) loads =
     let tops = each_tops h count at expr loads in (record { reply = tops.0; next = h }, (refl, tops.1))
-each_command h (commands.Approx word tolerance) loads =
+each_command asked h (commands.Approx word tolerance) loads =
     let told = each_approximates h word tolerance (λ w. each_word_list h w loads) in (record { reply = told.0; next = h }, (refl, told.1))
-each_command h (commands.Rough tolerance at expr) loads =
+each_command asked h (commands.Rough tolerance at expr) loads =
     let near = each_text (NearsBy h tolerance at) (each_neared h tolerance at loads) expr in (record { reply = near.0; next = h }, (refl, near.1))
-each_command h (commands.Best count at expr) loads =
+each_command asked h (commands.Best count at expr) loads =
     let bests = each_bests h count at expr loads in (record { reply = bests.0; next = h }, (refl, bests.1))
 each_command asked h (commands.Show doc at) loads = (record { reply = Version (text_at h doc at.seconds); next = h }, (refl, refl))
 each_command asked h (commands.Plan word kind fraction) loads = each_plans h word kind fraction loads
