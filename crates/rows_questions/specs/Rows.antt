@@ -35,7 +35,7 @@ use Rattle.model_archive.specs.Answers.{frequency_at, IsAnswerAt, IsSpanAnswerAt
 use Rattle.base_commands.specs.declared.command.Command.TheVariants.{Arrive, Between, Find, Show}
 use Rattle.base_commands.specs.declared.command.Item.TheVariants.{Command}
 use Rattle.base_commands.specs.declared.text.Text.TheVariants.{Bytes}
-use Rattle.model_archive.specs.Steps.{Accepted, Refused, Found, Spanned, Version, Step}
+use Rattle.model_archive.specs.Steps.{Accepted, Refused, Found, Spanned, Approximated, Neared, Version, Step}
 use Rattle.model_archive.specs.Replies.{reply_text}
 use Rattle.model_archive.specs.Worlds.{World, world_of}
 
@@ -181,6 +181,15 @@ span_row = record { doc = doc 7; span = record { from = 10; to = 20; ordered = l
 span_texts : reply_text (Spanned (span_row ∷ []) 1) ≡ codes "span 7 10 20 1" ++ 10 ∷ codes "end 1 read 1" ++ 10 ∷ []
 unfolding digits
 span_texts = refl
+
+-- the same row by approximations, and the word's whole list within any tolerance
+near_texts : reply_text (Neared (hit ∷ []) 1) ≡ codes "near 7 1" ++ 10 ∷ codes "end 1 read 1" ++ 10 ∷ []
+unfolding digits
+near_texts = refl
+
+approx_texts : reply_text (Approximated (posting ∷ []) 1) ≡ codes "approx 7 10 1099511627776 1" ++ 10 ∷ codes "end 1 of 1" ++ 10 ∷ []
+unfolding digits
+approx_texts = refl
 
 abbrev scored : ℕ → ℕ → Option ℕ
 scored d t = scored_at (λ x s. is_some (text_at one_arrival x s)) (λ x s word. frequency_at one_arrival word x s) (one red) d t
