@@ -33,7 +33,7 @@ use Rattle.query_best.specs.Held.{AreBlocksOf, IsBadBlock, IsBadOf, IsHeldAs, he
 use Rattle.query_best.specs.declared.held.HeldBlocks.{HeldBlocks}
 use Rattle.query_best.specs.declared.held.HeldWord.{HeldWord}
 use Rattle.model_archive.specs.Bests.{IsDamagedAt, IsSheetOf, header, in_pieces, sheet_laid, sublist_at}
-use Rattle.model_archive.specs.Chosen.{GathersOf, IsChosenOf, IsReadFor, IsReadOf, IsTailFor}
+use Rattle.model_archive.specs.Chosen.{GathersOf, IsChosenOf, IsDamagedFor, IsReadFor, IsReadOf, IsTailFor}
 use Rattle.model_archive.specs.Histories.{History}
 use Rattle.model_archive.specs.Holding.{HoldsPlans}
 use Rattle.model_archive.specs.Legal.{IsLoadable}
@@ -291,6 +291,14 @@ module _ (h : History) (pages : List ℕ) (t : ℕ) (word : List ℕ) (loads : I
           (ap (λ (x : Sheet). x.heads) laid) (ap (λ (x : Sheet). x.blocks) laid)
           (rows ∙ ap (rows_at t) (is ∙ ap (λ (xs : List Posting). xs ++ tail) gathered.0) ∙ sym (ap (λ (x : Sheet). x.flat) laid))
           (subst (λ (o : Option PlanEntry). IsReadOf h word o t (t + 1) read) (sym live) (held.list, tail, held.list_is, is_tail, omega (arith, sum, gathered.1)))
+
+-- what is gathered of a flat plan and damaged
+pub hand-damaged : (h : History) (pages : List ℕ) (t : ℕ) (word : List ℕ) (damage : Damage) → ((plan : PlanEntry) → plan_of h word ≡ Some plan → plan.layout ≡ Flat) → IsDamagedFor h pages word t (t + 1) damage → IsDamagedOne h pages t word damage
+hand-damaged h pages t word damage flat is = record {
+  plan = is.plan;
+  live = is.live;
+  damaged = subst (λ (l : Layout). IsDamagedAt pages is.plan l t damage) (sym (flat is.plan is.live)) is.told;
+}
 
 -- ---- words in turn
 

@@ -9,3 +9,4 @@ mod ChosenLemmas
 mod CacheLemmas
 mod BestLemmas
 mod BestMadeLemmas
+mod BestStepLemmas
