@@ -49,15 +49,15 @@ no-query-step false s next count at text place same read = (same, (Err place, re
 
 -- one that asks for something else
 no-chain-step : (b : Bool) (s next : Store) (count : BestCount) (at : Time) (text : List ℕ) (query : Query) → b ≡ false → next ≡ s → IsRead term_of text (Ok query) → AnswersBest b s count at text (Refused refusals.NotDisjunction) next
-no-chain-step true s next count at text query no same read = absurd cc
-no-chain-step false s next count at text query no same read = (same, (Ok query, read, refl))
+no-chain-step true s next count at text query quiet same read = absurd cc
+no-chain-step false s next count at text query quiet same read = (same, (Ok query, read, refl))
 
 -- first rows
 found-step : (b : Bool) (s next : Store) (count : BestCount) (at : Time) (text : List ℕ) (query : Query) (best : BestAnswer) → b ≡ true → IsRead term_of text (Ok query)
     → (HoldsPlans s.history s.pages → IsBestOf s.history at.seconds count.number query best) → next ≡ asking s (pieces_for s.history s.pages at.seconds (at.seconds + 1) (words_of query))
     → AnswersBest b s count at text (FoundBest best.rows.items best.read best.opened best.blocks) next
-found-step false s next count at text query best yes read made asks = absurd cc
-found-step true s next count at text query best yes read made asks = (
+found-step false s next count at text query best any read made asks = absurd cc
+found-step true s next count at text query best any read made asks = (
   Ok query,
   read,
   (
@@ -100,9 +100,9 @@ module _ (s : Store) (count : BestCount) (at : Time) (text : List ℕ) (d : Disk
 
   -- of one that asks for something else
   pub no-chain-by : (query : Query) → asks_for_any text ≡ false → IsRead term_of text (Ok query) → TakesBy s (item_of count at text) (best_found (Err (asks.Refused refusals.NotDisjunction))) d d x
-  no-chain-by query no read =
+  no-chain-by query quiet read =
       question_by (λ reply. StoreStep s (item_of count at text) reply (with_reads s x d)) s (item_of count at text) (best_found (Err (asks.Refused refusals.NotDisjunction))) d d x x (λ reply is. is) refl refl in_step.cached in_step
-      (no-chain-step (asks_for_any text) s (with_reads s x d) count at text query no (no_reads s d x in_step) read)
+      (no-chain-step (asks_for_any text) s (with_reads s x d) count at text query quiet (no_reads s d x in_step) read)
 
   -- for want of memory
   pub starved-by : TakesBy s (item_of count at text) (best_found (Err asks.Memory)) d d x
