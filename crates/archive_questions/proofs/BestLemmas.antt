@@ -229,7 +229,11 @@ union-alone : (list both : List Posting) → IsList list → IsUnion [] list bot
 union-alone list both is u = one_order ComesBefore before-trans never-both both list u.ordered is (λ x. (λ c. elim ((u.each x).0 c) [ inl k ↦ absurd (none x k) | inr k ↦ k ], λ k. (u.each x).1 (inr k)))
 
 ok-pair : {a b : List Posting} {m n : ℕ} → ◌≡◌ {A = Result (List Posting × ℕ) Damage} (Ok (a, m)) (Ok (b, n)) → (a ≡ b) × (m ≡ n)
-ok-pair e = (cc, cc)
+ok-pair {a} {b} {m} {n} e =
+    let one : List Posting × ℕ = (a, m) in
+    let other : List Posting × ℕ = (b, n) in
+    let pair : one ≡ other = cc in
+    (ap (λ (x : List Posting × ℕ). x.0) pair, ap (λ (x : List Posting × ℕ). x.1) pair)
 
 module _ (h : History) (pages : List ℕ) (t : ℕ) (word : List ℕ) (loads : IsLoadable h) (held_all : HoldsPlans h pages) where
   -- what is gathered of one segment at most

@@ -10,6 +10,8 @@ use Rattle.pages_area.specs.Caches.{Kept}
 use Rattle.pages_sublists.specs.declared.why.Damage.{Damage}
 use Rattle.pages_sublists.specs.declared.why.FetchError.{FetchError}
 use Rattle.pages_sublists.specs.declared.why.FetchError.TheVariants as fetches
+use Rattle.query_lang.specs.declared.error.QueryError.{QueryError}
+use Rattle.query_lang.specs.declared.error.QueryError.TheVariants as queries
 use Rattle.query_lang.specs.Chains.{asks_for_any}
 use Rattle.query_lang.specs.Grammar.{Query, IsRead}
 use Rattle.query_lang.specs.Meaning.{words_of}
@@ -28,7 +30,7 @@ use Rattle.archive_hand.specs.Stored.{AnswersBest, Spoils, Store, StoreStep, ask
 use Rattle.archive_hand.specs.Takes.{TakesBy}
 use Rattle.archive_questions.specs.After.{AfterFetching}
 use Rattle.archive_questions.specs.Bests.{AfterBest, AsksBest, IsBestOf, IsDamagedAmong}
-use Rattle.archive_questions.specs.Causes.{asked_of}
+use Rattle.archive_questions.specs.Causes.{ask_error_of_query, asked_of}
 use Rattle.archive_questions.specs.Endings.{best_found}
 use Rattle.archive_questions.specs.declared.besting.BestAnswer.{BestAnswer}
 use Rattle.archive_questions.specs.declared.error.AskError.{AskError}
@@ -107,6 +109,12 @@ module _ (s : Store) (count : BestCount) (at : Time) (text : List ℕ) (d : Disk
   -- for want of memory
   pub starved-by : TakesBy s (item_of count at text) (best_found (Err asks.Memory)) d d x
   starved-by = question_by (λ reply. StoreStep s (item_of count at text) reply (with_reads s x d)) s (item_of count at text) (best_found (Err asks.Memory)) d d x x (λ reply is. is) refl refl in_step.cached in_step tt
+
+  -- of a text that is told to be none
+  pub query-error-by : (why : QueryError) (error : AskError) → error ≡ ask_error_of_query why → ((place : ℕ) → why ≡ queries.BadQuery place → IsRead term_of text (Err place)) → TakesBy s (item_of count at text) (best_found (Err error)) d d x
+  query-error-by (queries.BadQuery place) error is bad =
+      subst (λ (q : AskError). TakesBy s (item_of count at text) (best_found (Err q)) d d x) (sym is) (no-query-by place (bad place refl))
+  query-error-by queries.Memory error is bad = subst (λ (q : AskError). TakesBy s (item_of count at text) (best_found (Err q)) d d x) (sym is) starved-by
 
   -- of what was found
   pub found-by : {tells : Type 0} (query : Query) (r : Result BestAnswer AskError) (fetched : Result BestAnswer FetchError) (e : DiskState) (y : ArchiveState) → tells → asks_for_any text ≡ true → IsRead term_of text (Ok query)

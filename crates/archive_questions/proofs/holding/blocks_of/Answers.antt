@@ -14,8 +14,8 @@ returns-in_err-place-clause-none c = λ none h stands plan live.
 pub returns-in-Flat-clause-none : goal.returns-in-Flat-clause-none
 returns-in-Flat-clause-none c = λ none h stands plan live.
     let there = subst (λ (x : ShelfState). IsPlanAt x.plans c.args.word.now c.in_ok-place.place) c.shelf.ensures.shelf c.in_ok-place.ensures in
-    let s = c.index-plans-at.result in
-    let same : s ≡ get_or c.args.archive.now.shelf.plans c.in_ok-place.place s = c.index-plans-at.is ∙ ap (λ (ps : List StoredPlan). get_or ps c.in_ok-place.place s) (c.plans.ensures ∙ ap (λ (x : ShelfState). x.plans) c.shelf-2.ensures.shelf) in
+    let s = c.index-plans-place.result in
+    let same : s ≡ get_or c.args.archive.now.shelf.plans c.in_ok-place.place s = c.index-plans-place.is ∙ ap (λ (ps : List StoredPlan). get_or ps c.in_ok-place.place s) (c.plans.ensures ∙ ap (λ (x : ShelfState). x.plans) c.shelf-2.ensures.shelf) in
     let live-is = planned_is c.args.archive.now h c.args.word.now c.in_ok-place.place s stands there same in
     let one : s.plan ≡ plan = cc in
-    ap (λ (p : PlanEntry). p.layout) (sym one) ∙ c.in-Flat.is
+    ap (λ (p : PlanEntry). p.layout) (sym one) ∙ ap (λ (x : StoredPlan). x.plan.layout) c.index-plans-place.is ∙ c.in-Flat.is
