@@ -134,7 +134,7 @@ after_weaker {T} tells phrase from to IsMade IsSo r d e x y so after = record {
 -- ---- by what reads give
 
 -- what was asked for a query, as the store that it leaves
-asked_of_query : (s : Store) (d e : DiskState) (x y : ArchiveState) (pieces : List Kept) → AreInStepBy d x s → HasAsked pieces x.shelf.cache y.shelf.cache d e → with_reads s y e ≡ asking s pieces
+pub asked_of_query : (s : Store) (d e : DiskState) (x y : ArchiveState) (pieces : List Kept) → AreInStepBy d x s → HasAsked pieces x.shelf.cache y.shelf.cache d e → with_reads s y e ≡ asking s pieces
 asked_of_query s d e x y pieces in_step has =
     let count : e.bytes_read.pages ≡ d.bytes_read.pages + missed_by_all pieces x.shelf.cache = ap (λ (b : Both ℕ). b.pages) has.count in
     let read : e.bytes_read.pages ≡ s.read + missed_by_all pieces s.kept = rw (in_step.kept_are, in_step.read_is) at count in

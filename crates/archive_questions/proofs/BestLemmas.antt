@@ -33,7 +33,7 @@ use Rattle.query_best.specs.Held.{AreBlocksOf, IsBadBlock, IsBadOf, IsHeldAs, he
 use Rattle.query_best.specs.declared.held.HeldBlocks.{HeldBlocks}
 use Rattle.query_best.specs.declared.held.HeldWord.{HeldWord}
 use Rattle.model_archive.specs.Bests.{IsDamagedAt, IsSheetOf, header, in_pieces, sheet_laid, sublist_at}
-use Rattle.model_archive.specs.Chosen.{GathersOf, IsChosenOf, IsReadFor, IsReadOf, IsTailFor}
+use Rattle.model_archive.specs.Chosen.{GathersOf, IsChosenOf, IsDamagedFor, IsReadFor, IsReadOf, IsTailFor}
 use Rattle.model_archive.specs.Histories.{History}
 use Rattle.model_archive.specs.Holding.{HoldsPlans}
 use Rattle.model_archive.specs.Legal.{IsLoadable}
@@ -229,7 +229,11 @@ union-alone : (list both : List Posting) → IsList list → IsUnion [] list bot
 union-alone list both is u = one_order ComesBefore before-trans never-both both list u.ordered is (λ x. (λ c. elim ((u.each x).0 c) [ inl k ↦ absurd (none x k) | inr k ↦ k ], λ k. (u.each x).1 (inr k)))
 
 ok-pair : {a b : List Posting} {m n : ℕ} → ◌≡◌ {A = Result (List Posting × ℕ) Damage} (Ok (a, m)) (Ok (b, n)) → (a ≡ b) × (m ≡ n)
-ok-pair e = (cc, cc)
+ok-pair {a} {b} {m} {n} e =
+    let one : List Posting × ℕ = (a, m) in
+    let other : List Posting × ℕ = (b, n) in
+    let pair : one ≡ other = cc in
+    (ap (λ (x : List Posting × ℕ). x.0) pair, ap (λ (x : List Posting × ℕ). x.1) pair)
 
 module _ (h : History) (pages : List ℕ) (t : ℕ) (word : List ℕ) (loads : IsLoadable h) (held_all : HoldsPlans h pages) where
   -- what is gathered of one segment at most
@@ -291,6 +295,14 @@ module _ (h : History) (pages : List ℕ) (t : ℕ) (word : List ℕ) (loads : I
           (ap (λ (x : Sheet). x.heads) laid) (ap (λ (x : Sheet). x.blocks) laid)
           (rows ∙ ap (rows_at t) (is ∙ ap (λ (xs : List Posting). xs ++ tail) gathered.0) ∙ sym (ap (λ (x : Sheet). x.flat) laid))
           (subst (λ (o : Option PlanEntry). IsReadOf h word o t (t + 1) read) (sym live) (held.list, tail, held.list_is, is_tail, omega (arith, sum, gathered.1)))
+
+-- what is gathered of a flat plan and damaged
+pub hand-damaged : (h : History) (pages : List ℕ) (t : ℕ) (word : List ℕ) (damage : Damage) → ((plan : PlanEntry) → plan_of h word ≡ Some plan → plan.layout ≡ Flat) → IsDamagedFor h pages word t (t + 1) damage → IsDamagedOne h pages t word damage
+hand-damaged h pages t word damage flat is = record {
+  plan = is.plan;
+  live = is.live;
+  damaged = subst (λ (l : Layout). IsDamagedAt pages is.plan l t damage) (sym (flat is.plan is.live)) is.told;
+}
 
 -- ---- words in turn
 

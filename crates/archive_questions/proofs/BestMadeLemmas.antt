@@ -1,12 +1,13 @@
 -- What is found by blocks of what is held of a query's words is the history's, where the query asks for any of them.
-use Rattle.std.proofs.Common.{◌≡◌, ℕ, ◌+◌, ◌<◌, ◌^◌, nat_lt, List, [], ◌∷◌, length, map, take, sum_by, Contains, Option, Some, None, IsSome, refl, ap, sym, subst, ◌∙◌, arith}
+use Rattle.std.proofs.Common.{◌≡◌, ℕ, ◌+◌, ◌<◌, ◌≤◌, ◌^◌, nat_lt, All, List, [], ◌∷◌, length, map, take, sum_by, Contains, Option, Some, None, IsSome, refl, ap, sym, subst, ◌∙◌, arith}
 use Rattle.std.specs.List.{AllZip}
+use Rattle.std.proofs.lemmas.List.{get_or-map, length-map}
 use Rattle.std.proofs.lemmas.List.Sums.{sum_by-cons}
 use Rattle.base_types.specs.declared.ids.DocId.{DocId}
 use Rattle.lists_versions.specs.Changes as changed
 use Rattle.lists_versions.proofs.Alive.{alive-has}
 use Rattle.query_lang.specs.Grammar.{Query}
-use Rattle.query_lang.specs.Meaning.{matches, score, words_of}
+use Rattle.query_lang.specs.Meaning.{matches, score, weight, words_of}
 use Rattle.query_eval.specs.declared.answer.Row.{Row}
 use Rattle.query_eval.proofs.FoundLemmas.{each-answer}
 use Rattle.query_eval.proofs.GivenLemmas.{same_alive}
@@ -78,3 +79,9 @@ best-made h t count query words read opened blocks tops best loads now any held 
       };
       first = rows_are ∙ first;
     }
+
+-- the weights of words that weigh something
+pub weights-fit : (query : Query) → All (λ w. (1 ≤ weight query w) × (weight query w ≤ 1000)) (words_of query) → All (λ w. (1 ≤ w) × (w ≤ 1000)) (weights_in query)
+weights-fit query each = λ k d l.
+    let inside : k < length (words_of query) = omega (arith, l, length-map (words_of query) (weight query)) in
+    subst (λ x. (1 ≤ x) × (x ≤ 1000)) (sym (get_or-map (weight query) (words_of query) k [] d inside)) (each k [] inside)

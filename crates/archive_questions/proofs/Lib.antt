@@ -11,3 +11,4 @@ mod ChosenLemmas
 mod CacheLemmas
 mod BestLemmas
 mod BestMadeLemmas
+mod BestStepLemmas

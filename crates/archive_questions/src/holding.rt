@@ -99,7 +99,8 @@ fn blocks_of(archive: &Archive, word: &Key) -> Option<usize>
         → plan.layout ≡ Flat }
 {
     let place = archive.shelf().position(word)?;
-    match archive.shelf().plans()[place].plan.layout {
+    let layout = archive.shelf().plans()[place].plan.layout;
+    match layout {
         Layout::Blocks => Some(place),
         Layout::Flat => None,
     }

@@ -35,7 +35,7 @@ use Rattle.model_archive.specs.Legal.{IsLoadable}
 use Rattle.model_archive.proofs.ChosenLemmas.{IsHeld, held_for, held_undamaged}
 
 -- postings with the same numbers are the same
-same_all : (ps qs : List Posting) → map fields ps ≡ map fields qs → ps ≡ qs
+pub same_all : (ps qs : List Posting) → map fields ps ≡ map fields qs → ps ≡ qs
 same_all [] [] e = refl
 same_all [] (q ∷ qs) e = absurd cc
 same_all (p ∷ ps) [] e = absurd cc

@@ -215,6 +215,12 @@ joined-tells h word t horizon sealed tail cuts now are up_to is_tail doc = elim 
     tells early (inl first) = ap (frequency doc.0 t) (stored-before t horizon sealed cuts are.ascending first) ∙ sym (outside (next_cut cuts horizon) horizon sealed are.inside doc.0 t (inl first))
     tells early (inr from) = stored-tells doc.0 t horizon sealed cuts are.ascending from early
 
+-- the segments of a live plan stand in turn
+pub live_in_turn : (h : History) (word : List ℕ) (plan : PlanEntry) → IsLoadable h → plan_of h word ≡ Some plan → IsStrictlyIncreasing (seconds plan.cuts ++ plan.horizon.seconds ∷ [])
+live_in_turn h word plan loads live =
+    let planned = word_planned h word plan loads live in
+    (are_cuts plan.kind planned.list plan.fraction plan.cuts plan.horizon planned.list_is.ordered planned.some planned.list_is.inside planned.fit).ascending
+
 -- ---- sheets of words
 
 -- a sheet is true, and tells its word
