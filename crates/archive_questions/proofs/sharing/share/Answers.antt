@@ -1,4 +1,4 @@
-use Rattle.std.proofs.Common.{◌≡◌, ◌×◌, List, ℕ, Err, Ok, subst, ◌∙◌}
+use Rattle.std.proofs.Common.{◌≡◌, List, ℕ, Err, Ok, subst, ◌∙◌}
 use Rattle.model_archive.specs.Planning.{last_second}
 use Rattle.model_archive.specs.Sharing.{OfPhrases}
 use Rattle.archive_questions.specs.Sharers.{sharers}
