@@ -1,6 +1,5 @@
-use Rattle.std.proofs.Common.{◌≡◌, ◌+◌, ℕ, List, length, Result, Err, ap, sym, ◌∙◌, arith}
+use Rattle.std.proofs.Common.{◌≡◌, ◌+◌, List, length, ap, sym, ◌∙◌, arith}
 use Rattle.base_commands.specs.declared.command.Kind.TheVariants.{Uniform}
-use Rattle.model_archive.specs.declared.refusal.Refusal.{Refusal}
 use Rattle.model_archive.specs.Planning.{last_second}
 use Rattle.model_archive.specs.Sharing.{with_sharer}
 use Rattle.plans_share.specs.Offers.{Sharer}

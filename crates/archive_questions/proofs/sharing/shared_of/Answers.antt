@@ -1,4 +1,4 @@
-use Rattle.std.proofs.Common.{◌≡◌, ap, ap₂, ◌∙◌, ℕ}
+use Rattle.std.proofs.Common.{ap₂, ◌∙◌, ℕ}
 use Rattle.base_types.specs.declared.fraction.Fraction.{Fraction}
 use Rattle.plans_space.specs.Caps as caps
 use Rattle.archive_questions.proofs.ShareLemmas.{shared_is}

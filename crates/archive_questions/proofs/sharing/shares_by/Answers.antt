@@ -1,4 +1,4 @@
-use Rattle.std.proofs.Common.{◌≡◌, ◌+◌, ◌<◌, ◌++◌, ◌∷◌, [], ℕ, suc, List, length, drop, get_or, ap, sym, subst, ◌∙◌, arith, append_assoc}
+use Rattle.std.proofs.Common.{◌≡◌, ◌+◌, ◌<◌, ◌++◌, ◌∷◌, [], suc, List, length, drop, get_or, ap, sym, subst, ◌∙◌, arith, append_assoc}
 use Rattle.plans_share.specs.Choices.{picked}
 use Rattle.model_archive.specs.declared.sharing.Share.{Share}
 use Rattle.model_archive.specs.Sharing.{shares_of}
