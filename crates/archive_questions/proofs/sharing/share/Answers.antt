@@ -1,15 +1,17 @@
-use Rattle.std.proofs.Common.{◌≡◌, List, ℕ, Err, Ok, subst, ◌∙◌}
+use Rattle.std.proofs.Common.{◌≡◌, List, ℕ, Err, Ok, ap, subst, ◌∙◌}
 use Rattle.model_archive.specs.Planning.{last_second}
 use Rattle.model_archive.specs.Sharing.{OfPhrases}
 use Rattle.archive_questions.specs.Sharers.{sharers}
+use Rattle.archive_questions.specs.declared.error.ShareError.TheVariants as fails
 use Rattle.archive_hand.proofs.ByReadsLemmas.{keeps_nowhere}
 use Rattle.archive_questions.proofs.ShareLemmas.{shared_by, shares_refused, shares_told}
 use Rattle.archive_questions.proofs.sharing.share.Goals as goal
 
 pub returns-in-Err-clause-refused : goal.returns-in-Err-clause-refused
 returns-in-Err-clause-refused c = λ h stands why index is.
+    let same : c.in-Err.error ≡ fails.Refused why index = cc in
     shares_refused c.args.archive.now.asked h c.args.words.now c.args.factor.fraction why index
-    (subst (λ (l : List (List ℕ)). OfPhrases h 1 l (λ n because. (n ≡ index) × (because ≡ why)) (λ words. ⊥)) c.as_slice.ensures.value (c.sealed_from.ensures.refused h stands why index (c.in-Err.is ∙ is)))
+    (subst (λ (l : List (List ℕ)). OfPhrases h 1 l (λ n because. (n ≡ index) × (because ≡ why)) (λ words. ⊥)) c.as_slice.ensures.value (c.sealed_from.ensures.refused h stands why index (c.in-Err.is ∙ ap Err same)))
 
 pub returns-in-Err-clause-by_reads : goal.returns-in-Err-clause-by_reads
 returns-in-Err-clause-by_reads c = λ d s in_step.
@@ -28,5 +30,5 @@ pub returns-in-Ok-shared_of-clause-by_reads : goal.returns-in-Ok-shared_of-claus
 returns-in-Ok-shared_of-clause-by_reads c = λ d s in_step.
     shared_by s _ c.args.words.now c.args.factor.fraction (Ok c.in-Ok-shared_of.sharing) d c.args.archive.now (λ reply next same is. (same, is)) in_step (λ why index is. absurd cc) (returns-in-Ok-shared_of-clause-shares c s.history in_step.stands)
 
-pub returns-in-Err-shared_of-clause-by_reads : goal.returns-in-Err-shared_of-clause-by_reads
-returns-in-Err-shared_of-clause-by_reads c = λ d s in_step. keeps_nowhere d c.args.archive.now s in_step
+pub returns-clause-by_reads : goal.returns-clause-by_reads
+returns-clause-by_reads c = λ d s in_step. keeps_nowhere d c.args.archive.now s in_step
