@@ -36,7 +36,7 @@ use Rattle.archive_hand.specs.Asking.{HasAsked}
 use Rattle.archive_questions.specs.Answering.{IsAnswerTo, IsNoQuery, IsWantedAt}
 use Rattle.archive_questions.specs.Causes.{ask_error_of_query, asked_of}
 use Rattle.archive_hand.specs.States.{ArchiveState, AreInStepBy, with_reads}
-use Rattle.archive_hand.specs.Stored.{Store, Answers, MakesAt, MakesOver, MakesRough, MakesTop, Spoils, StoreStep, asking}
+use Rattle.archive_hand.specs.Stored.{Store, Answers, MakesOver, MakesRough, MakesTop, Spoils, StoreStep, asking}
 use Rattle.archive_hand.specs.Takes.{TakesBy}
 use Rattle.archive_questions.specs.Endings.{answered, found, neared, spanned, unanswered}
 use Rattle.archive_questions.specs.declared.approximating.RoughAnswer.{RoughAnswer}
@@ -243,21 +243,6 @@ find_by {tells} s at phrase r d e x z told in_step noted = go r noted.after note
         (unanswered_by (asks.Damaged damage) after (subst (λ (pages : List ℕ). SpoilsAnswer s.history pages at.seconds (at.seconds + 1) phrase damage) in_step.pages_are (after.damaged told s.history in_step.stands in_step.cached damage refl)))
     go (Err asks.Failed) after same = subst (λ (a : ArchiveState). TakesBy s (items.Command (commands.Find at phrase)) (unanswered asks.Failed) d e a) (sym same) (unanswered_by asks.Failed after tt)
     go (Err asks.Memory) after same = subst (λ (a : ArchiveState). TakesBy s (items.Command (commands.Find at phrase)) (unanswered asks.Memory) d e a) (sym same) (unanswered_by asks.Memory after tt)
-
--- an answer that could not be noted
-pub after_starved : {T : Type 0} (tells : Type 0) (phrase : List ℕ) (from to : ℕ) (IsMade : History → Query → T → Type 0) (answer : T) (d e : DiskState) (x y : ArchiveState)
-    → AfterQuestion tells phrase from to IsMade (Ok answer) d e x y → AfterQuestion tells phrase from to IsMade (Err asks.Memory) d e x y
-after_starved tells phrase from to IsMade answer d e x y after = record {
-  same = after.same;
-  but_cache = after.but_cache;
-  cached = after.cached;
-  failed = λ failed. absurd cc;
-  refused = λ why refused. absurd cc;
-  unasked = λ why refused. absurd cc;
-  asked = λ ok. absurd cc;
-  made = λ told h stands cached. tt;
-  damaged = λ told h stands cached damage damaged. absurd cc;
-}
 
 pub top_by : {tells : Type 0} (s : Store) (count : TopCount) (at : Time) (phrase : List ℕ) (r : Result Answer AskError) (d e : DiskState) (x y : ArchiveState) → tells → AreInStepBy d x s
     → AfterQuestion tells phrase at.seconds (at.seconds + 1) (λ h query answer. IsWantedAt (First count.number) h d.holds.pages at.seconds query answer.rows.items answer.read) r d e x y

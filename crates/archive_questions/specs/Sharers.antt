@@ -14,9 +14,12 @@ sharers words = map sharer words
 abbrev pub stands_apart : List ℕ → Sealed → Bool
 stands_apart word s = not (bytes_eq s.word word)
 
--- its list can be planned: it has some postings, not too many, and all of them end by the horizon
-pub record IsPlannable (horizon : ℕ) (s : Sealed) : Type 0 where
-  pub horizon_is : s.horizon.seconds ≡ horizon
+-- its list can be planned: it has some postings, not too many, and all of them end by its horizon
+pub record IsPlannable (s : Sealed) : Type 0 where
   pub some : 0 < length s.list.items
   pub few : length s.list.items < 2 ^ 38
-  pub early : All (λ p. p.span.to ≤ horizon) s.list.items
+  pub early : All (λ p. p.span.to ≤ s.horizon.seconds) s.list.items
+
+-- its list ends there
+abbrev pub EndsAt : ℕ → Sealed → Type 0
+EndsAt horizon s = s.horizon.seconds ≡ horizon

@@ -1,5 +1,5 @@
 //! How a budget is best shared among words.
-ghost use Rattle.std.specs.Prelude.{◌≡◌, ◌<◌, ◌≤◌, ◌^◌, ◌+◌, ◌∷◌, ℕ, length, filter, sum_by, All, IfOk, IsErrOf};
+ghost use Rattle.std.specs.Prelude.{◌≡◌, ◌<◌, ◌≤◌, ◌^◌, ◌+◌, ◌++◌, ◌∷◌, ℕ, length, filter, sum_by, All, IfOk, IsErrOf};
 ghost use Rattle.machine_model.specs.States.{DiskState};
 ghost use Rattle.plans_share.specs.Asked.{asked_in};
 ghost use Rattle.plans_share.specs.Choices.{ArePicks};
@@ -7,13 +7,13 @@ ghost use Rattle.plans_share.specs.Offers.{AreOffers, IsOffer};
 ghost use Rattle.plans_share.specs.Steps.{AreCheap};
 ghost use Rattle.model_archive.specs.Histories.{History};
 ghost use Rattle.model_archive.specs.Planning.{last_second};
-ghost use Rattle.model_archive.specs.Sharing.{OfPhrases, shares_of};
+ghost use Rattle.model_archive.specs.Sharing.{IsShared, OfPhrases, shares_of};
 ghost use Rattle.model_archive.specs.Steps.{RefusedIn, Shared, Shares};
 ghost use Rattle.archive_hand.specs.States.{StandsFor, AreInStepBy};
 ghost use Rattle.archive_hand.specs.Stored.{Store};
 ghost use Rattle.archive_hand.specs.Takes.{TakesBy};
 ghost use Rattle.archive_questions.specs.Endings.{shared};
-ghost use Rattle.archive_questions.specs.Sharers.{IsPlannable, sharers, stands_apart};
+ghost use Rattle.archive_questions.specs.Sharers.{EndsAt, IsPlannable, sharers, stands_apart};
 ghost use Rattle.base_commands.specs.declared.command.Command.TheVariants as commands;
 ghost use Rattle.base_commands.specs.declared.command.Item.TheVariants as items;
 
@@ -21,6 +21,7 @@ use crate::error::ShareError;
 use archive_entries::Declined;
 use archive_hand::{Archive, Sealed};
 use base_commands::{Phrase, ShareFraction, ShareWords};
+use base_types::Key;
 use model_archive::{Refusal, Share, Sharing};
 use plans_partitions::Table;
 use plans_share::{Asked, Choice, Offer, combine, offer_for};
@@ -51,11 +52,32 @@ pub fn share(
     ensures by_reads { (d : DiskState) (s : Store) → AreInStepBy d archive.now s
         → TakesBy s (items.Command (commands.Share factor words.now)) (shared result) d d archive.now }
 {
-    let sealed = sealed_from(alloc, archive, words.as_slice(), 1)?;
-    let limits = limits_of(factor.fraction(), postings(&sealed));
-    let offers = offers_for(alloc, archive.asked(), &sealed, limits)?;
+    let sealed = match sealed_from(alloc, archive, words.as_slice(), 1) {
+        Ok(sealed) => sealed,
+        Err(error) => return Err(error),
+    };
+    match shared_of(alloc, archive, &sealed, factor) {
+        Ok(sharing) => Ok(sharing),
+        Err(_) => Err(ShareError::Memory),
+    }
+}
+
+/// How one budget is best spent on some words.
+fn shared_of(
+    alloc: Global,
+    archive: &Archive,
+    sealed: &[Sealed],
+    factor: ShareFraction,
+) -> Result<Sharing, AllocError>
+    requires few { length sealed.now ≤ 16 }
+    requires plannable { All IsPlannable sealed.now }
+    ensures { (horizon : ℕ) → All (EndsAt horizon) sealed.now → IfOk result (λ s. IsShared archive.now.asked horizon factor.fraction
+        (sharers sealed.now) s.shares.items s.unit s.budget s.cost) }
+{
+    let limits = limits_of(factor.fraction(), postings(sealed));
+    let offers = offers_for(alloc, archive.asked(), sealed, limits)?;
     let choice = combine(alloc, &offers, limits.budget as u64)?;
-    let shares = shares_by(alloc, &sealed, &offers, &choice)?;
+    let shares = shares_by(alloc, sealed, &offers, &choice)?;
     Ok(Sharing {
         shares,
         unit: limits.unit,
@@ -76,7 +98,8 @@ fn sealed_from(
         → OfPhrases h number phrases.now (λ n because. (n ≡ index) × (because ≡ why)) (λ words. ⊥) }
     ensures sealed { (h : History) → StandsFor archive.now h
         → IfOk result (λ v. OfPhrases h number phrases.now (λ n because. ⊥) (λ words. words ≡ sharers v.items)) }
-    ensures plannable { (h : History) → StandsFor archive.now h → IfOk result (λ v. All (IsPlannable (last_second h)) v.items) }
+    ensures plannable { IfOk result (λ v. All IsPlannable v.items) }
+    ensures horizon { (h : History) → StandsFor archive.now h → IfOk result (λ v. All (EndsAt (last_second h)) v.items) }
     ensures few { IfOk result (λ v. length v.items ≤ length phrases.now) }
 {
     let Some((phrase, rest)) = phrases.split_first() else {
@@ -87,7 +110,10 @@ fn sealed_from(
         Err(Declined::Refused(why)) => return Err(ShareError::Refused { why, index: number }),
         Err(Declined::Memory) => return Err(ShareError::Memory),
     };
-    let rest = sealed_from(alloc, archive, rest, number + 1)?;
+    let rest = match sealed_from(alloc, archive, rest, number + 1) {
+        Ok(rest) => rest,
+        Err(error) => return Err(error),
+    };
     let words = with_first(alloc, first, rest)?;
     Ok(words)
 }
@@ -99,8 +125,20 @@ fn with_first(alloc: Global, first: Sealed, rest: Vec<Sealed>) -> Result<Vec<Sea
     let word = first.word.clone()?;
     let mut words = Vec::new(alloc);
     words.push(first)?;
+    let words = with_others(words, rest, &word)?;
+    Ok(words)
+}
+
+/// Some words, and those others that aren't this word.
+fn with_others(
+    mut words: Vec<Sealed>,
+    rest: Vec<Sealed>,
+    word: &Key,
+) -> Result<Vec<Sealed>, AllocError>
+    ensures { IfOk result (λ v. v.items ≡ words.items ++ filter (stands_apart word.now) rest.items) }
+{
     for sealed in rest {
-        if sealed.word != word {
+        if sealed.word != *word {
             words.push(sealed)?;
         }
     }
@@ -110,7 +148,7 @@ fn with_first(alloc: Global, first: Sealed, rest: Vec<Sealed>) -> Result<Vec<Sea
 /// How many postings the lists have together.
 fn postings(sealed: &[Sealed]) -> u64
     requires few { length sealed.now ≤ 16 }
-    requires plannable { (horizon : ℕ) × All (IsPlannable horizon) sealed.now }
+    requires plannable { All IsPlannable sealed.now }
     ensures value { result ≡ sum_by (λ s. length s.list.items) sealed.now }
     ensures bound { result < 2 ^ 43 }
 {
@@ -128,8 +166,8 @@ fn offers_for(
     sealed: &[Sealed],
     limits: Limits,
 ) -> Result<Vec<Offer>, AllocError>
-    requires plannable { (horizon : ℕ) × All (IsPlannable horizon) sealed.now }
-    ensures offers { (horizon : ℕ) → All (IsPlannable horizon) sealed.now
+    requires plannable { All IsPlannable sealed.now }
+    ensures offers { (horizon : ℕ) → All (EndsAt horizon) sealed.now
         → IfOk result (λ v. AreOffers asked.now horizon limits.unit (sharers sealed.now) v.items) }
     ensures long { IfOk result (λ v. length v.items ≡ length sealed.now) }
     ensures fronts { IfOk result (λ v. All (λ o. length o.front ≤ 4097) v.items) }
@@ -145,7 +183,7 @@ fn offers_for(
 
 /// What is offered for a word.
 fn offered(alloc: Global, asked: &Asked, word: &Sealed, limits: Limits) -> Result<Offer, AllocError>
-    requires plannable { (horizon : ℕ) × IsPlannable horizon word.now }
+    requires plannable { IsPlannable word.now }
     ensures offer { IfOk result (λ o. IsOffer (asked_in asked.now word.now.word) word.now.list.items word.now.horizon.seconds limits.unit o) }
     ensures few { IfOk result (λ o. length o.front ≤ 4097) }
     ensures cheap { IfOk result AreCheap }

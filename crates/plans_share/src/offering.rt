@@ -2,9 +2,8 @@
 ghost use Rattle.std.specs.Prelude.{◌≡◌, ◌-◌, ◌*◌, ◌<◌, ◌≤◌, ◌^◌, ℕ, List, [], ◌∷◌, length, map, slice_index, All, IfOk};
 ghost use Rattle.std.specs.List.Sorted.{IsStrictlyIncreasing};
 ghost use Rattle.base_types.specs.declared.posting.Posting.{Posting};
-ghost use Rattle.base_types.specs.declared.fraction.Fraction.{Fraction as PlainFraction};
 ghost use Rattle.plans_partitions.specs.Counts.{Tabulates};
-ghost use Rattle.plans_space.specs.Caps.{cap, unit, charge};
+ghost use Rattle.plans_space.specs.Caps.{unit, charge};
 ghost use Rattle.plans_space.specs.Costs.{expected_cost};
 ghost use Rattle.plans_space.specs.Loads.{weights_by};
 ghost use Rattle.plans_space.specs.Plans.{IsFront};

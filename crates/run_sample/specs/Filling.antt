@@ -5,7 +5,6 @@ use Rattle.machine_model.specs.States.{DiskState}
 use Rattle.machine_model.specs.Moments.{GoesOn, LeavesOnly}
 use Rattle.base_commands.specs.declared.command.Command.{Command}
 use Rattle.base_commands.specs.declared.command.Item.TheVariants as items
-use Rattle.model_archive.specs.Histories.{History}
 use Rattle.model_archive.specs.Steps.{Reply, Verified, Step}
 use Rattle.model_archive.specs.Runs.{Outcome, IsRun, state_after}
 use Rattle.model_archive.specs.Standing.{last_state}

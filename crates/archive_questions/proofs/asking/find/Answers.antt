@@ -1,4 +1,4 @@
-use Rattle.std.proofs.Common.{ap, subst, sym, List, ℕ, Ok, refl}
+use Rattle.std.proofs.Common.{subst, List, ℕ, Ok, refl}
 use Rattle.query_lang.specs.Grammar.{IsRead}
 use Rattle.query_lang.specs.Tokens.{term_of}
 use Rattle.archive_questions.proofs.AskedLemmas.{after_no_query, find_by}

@@ -7,7 +7,6 @@ use Rattle.base_commands.specs.declared.command.Item.TheVariants as items
 use Rattle.base_sample.specs.Laws.{MayBeSampled}
 use Rattle.base_sample.proofs.LawLemmas.{documents, kinds}
 use Rattle.model_archive.specs.declared.verdict.Verdict.{Verdict}
-use Rattle.model_archive.specs.Worlds.{World}
 use Rattle.run_sample.specs.Carrying.{ComesToCheck}
 use Rattle.run_sample.proofs.FillLemmas.{comes_next, counts_first, counts_next, filled_at, filled_between, filled_whole, goes_next, sample_ends}
 use Rattle.run_sample.proofs.filling.fill.Goals as goal

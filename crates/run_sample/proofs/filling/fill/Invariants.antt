@@ -2,7 +2,6 @@ use Rattle.std.proofs.Common.{length, map, All, IsTrue}
 use Rattle.base_commands.specs.Documents.{HasDocument}
 use Rattle.base_commands.specs.declared.command.Item.TheVariants as items
 use Rattle.base_sample.specs.Laws.{MayBeSampled}
-use Rattle.model_archive.specs.Histories.{History}
 use Rattle.model_archive.specs.Worlds.{World}
 use Rattle.archive_hand.specs.States.{AreInStep, Reaches}
 use Rattle.run_sample.specs.Carrying.{ComesToCheck, Counts}
