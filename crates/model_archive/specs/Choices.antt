@@ -12,11 +12,13 @@ use Rattle.model_archive.specs.Steps.{Reply, Proposed}
 abbrev pub IsChoice : Item → Type 0
 IsChoice (items.Command (commands.Propose word fraction)) = Unit {0}
 IsChoice (items.Command (commands.Plan word kind fraction)) = Unit {0}
+IsChoice (items.Command (commands.Begin word fraction)) = Unit {0}
 IsChoice other = ⊥
 
--- the item asks for a plan to be stored
+-- the item asks for a plan to be stored, at once or step by step
 abbrev pub IsStoring : Item → Type 0
 IsStoring (items.Command (commands.Plan word kind fraction)) = Unit {0}
+IsStoring (items.Command (commands.Begin word fraction)) = Unit {0}
 IsStoring other = ⊥
 
 -- the replies are the same, or two proposals that differ in their segments alone
