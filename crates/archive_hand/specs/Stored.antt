@@ -1,6 +1,6 @@
 -- An archive by what reads give: what an item of the input does to it, and what is replied. Nothing is asked of what lies in Pages: where it holds what
 -- the history's plans need, this is the abstract archive's step over the history.
-use Rattle.std.specs.Prelude.{◌≡◌, ℕ, ◌+◌, List, [], ◌∷◌, ◌++◌, length, take, All, Result, Ok, Err}
+use Rattle.std.specs.Prelude.{◌≡◌, ℕ, ◌+◌, Bool, List, [], ◌∷◌, ◌++◌, length, take, All, Option, is_some, Result, Ok, Err}
 use Rattle.machine_model.specs.Areas.{Bytes}
 use Rattle.machine_model.specs.Images.{MayLeave}
 use Rattle.machine_model.specs.States.{DiskState}
@@ -32,15 +32,22 @@ use Rattle.model_archive.specs.Histories.{History, text_at}
 use Rattle.model_archive.specs.Holding.{HoldsPlan}
 use Rattle.model_archive.specs.Plans.{live_extents}
 use Rattle.model_archive.specs.Stands.{bodies_of}
-use Rattle.model_archive.specs.Steps.{Reply, Accepted, Found, Planned, Refused, Spanned, Verified, Version, CarriesOut, Certifies, IsRepliedBy, Proposes}
+use Rattle.model_archive.specs.Steps.{Reply, Accepted, Found, Planned, Finished, Refused, Spanned, Verified, Version, Begins, CarriesOut, Certifies, IsRepliedBy, Proposes, Works}
+use Rattle.model_archive.specs.Worlds.{Job, World}
 use Rattle.archive_check.specs.Checked.{IsChecked}
 
--- an archive by what reads give: its history, the bytes of Pages, the pieces of pages that it keeps, and how many bytes of Pages were read
+-- an archive by what reads give: its history, the bytes of Pages, the pieces of pages that it keeps, how many bytes of Pages were read, and a plan that is
+-- being written, if one is
 pub record Store : Type 0 where
   pub history : History
   pub pages : List ℕ
   pub kept : List Kept
   pub read : ℕ
+  pub job : Option Job
+
+-- the abstract archive's state
+abbrev pub world_in : Store → World
+world_in store = record { history = store.history; job = store.job }
 
 -- an extent lies inside these pages, and has the bytes there that it has in those
 abbrev pub HasSame : List ℕ → List ℕ → Extent → Type 0
@@ -64,7 +71,7 @@ pub record Stocks (old new : Store) : Type 0 where
 
 -- a change or a plan is carried out on the history as the machine says
 abbrev pub Changes : Store → Command → Reply → Store → Type 0
-Changes old command reply new = CarriesOut old.history command reply new.history × Stocks old new
+Changes old command reply new = CarriesOut old.job old.history command reply new.history × (new.job ≡ old.job) × Stocks old new
 
 -- what is found by a query at a time, by the lists that are chosen
 abbrev pub MakesAt : Store → Time → Query → Reply → Type 0
@@ -90,6 +97,7 @@ TellsVerdict store reply = (journal : List ℕ) × (verdict : Verdict) × Spells
 abbrev pub TellsNoEntry : Reply → Type 0
 TellsNoEntry (Accepted length) = ⊥
 TellsNoEntry (Planned summary) = ⊥
+TellsNoEntry (Finished summary) = ⊥
 TellsNoEntry other = Unit {0}
 
 -- pages are asked for that give these pieces: those that are missed are read, and kept
@@ -126,7 +134,17 @@ StoreStep old (items.Command (commands.Show doc at)) reply new = ReadsOn old new
 StoreStep old (items.Command (commands.Propose word fraction)) reply new = (new ≡ old) × Proposes old.history word fraction reply
 StoreStep old (items.Command (commands.Certificate word)) reply new = (new ≡ old) × Certifies old.history word reply
 StoreStep old (items.Command commands.Verify) reply new = ReadsOn old new × TellsVerdict old reply
+StoreStep old (items.Command (commands.Begin word fraction)) reply new =
+    Begins (world_in old) word fraction reply (world_in new) × (new ≡ record old { job = new.job })
 StoreStep old other reply new = (new ≡ old) × (reply ≡ Refused refusals.Line)
+
+-- A stint by what reads give: it is the abstract archive's, and leaves each live place as it was.
+abbrev pub StoreStint : Store → Reply → Store → Type 0
+StoreStint old reply new = Works (world_in old) reply (world_in new) × Stocks old new
+
+-- a plan is being written
+abbrev pub is_at_work : Store → Bool
+is_at_work store = is_some store.job
 
 -- the history and the bytes of Pages are the same
 abbrev pub IsSameStore : Store → Store → Type 0

@@ -1,5 +1,5 @@
 //! The open archive, and what it is asked that keeps it consistent.
-ghost use Rattle.std.specs.Prelude.{◌≡◌, ◌+◌, ◌<◌, ◌≤◌, length, get_or, Some, Ok, Err, IfOk, IfErr, OnOk};
+ghost use Rattle.std.specs.Prelude.{◌≡◌, ◌+◌, ◌<◌, ◌≤◌, length, get_or, option_map, Some, None, Ok, Err, IfOk, IfErr, OnOk};
 ghost use Rattle.journal_gates.specs.Records.{new_bytes};
 ghost use Rattle.machine_model.specs.Calls.{OnlyReads};
 ghost use Rattle.pages_sublists.specs.Fetching.{IfDamaged, IfFailed};
@@ -13,6 +13,7 @@ ghost use Rattle.archive_hand.specs.Adding.{GivesUp};
 ghost use Rattle.lists_index.specs.Indexes.{state_of};
 
 use crate::error::ChangeError;
+use crate::job::Job;
 use archive_entries::Declined;
 use archive_plans::Shelf;
 use base_types::Span;
@@ -34,6 +35,7 @@ pub struct Archive {
     pub(crate) entries: u64,
     pub(crate) marked: bool,
     pub(crate) live: bool,
+    pub(crate) job: Option<Job>,
 }
 
 impl Model for Archive {
@@ -52,6 +54,7 @@ impl Model for Archive {
       index = state_of a.index;
       shelf = a.shelf;
       marked = a.marked;
+      job = a.job;
     } };
 
     // It stands for a history, which it shows on any disk; one that is spent within a batch but for what it tells of words.
@@ -64,12 +67,13 @@ impl Model for Archive {
           index = state_of a.index;
           shelf = a.shelf;
           marked = a.marked;
+          job = a.job;
         }) };
 }
 
 impl Archive {
     // The archive of a journal, by the changes of its entries, the index of their texts, the live plans, and whether
-    // the mark is among the entries. It is live where the journal is.
+    // the mark is among the entries. It is live where the journal is, and no plan is being written.
     pub(crate) fn of(
         journal: Journal,
         directory: Directory,
@@ -88,6 +92,7 @@ impl Archive {
               index = state_of index;
               shelf = shelf;
               marked = marked;
+              job = None;
             }) h }
         ensures { result ≡ record {
           end = journal.end;
@@ -97,6 +102,7 @@ impl Archive {
           index = state_of index;
           shelf = shelf;
           marked = marked;
+          job = None;
         } }
     {
         let live = journal.is_live();
@@ -108,6 +114,7 @@ impl Archive {
             entries,
             marked,
             live,
+            job: None,
         }
     }
 
@@ -131,6 +138,13 @@ impl Archive {
         ensures { result ≡ self.now.marked }
     {
         self.marked
+    }
+
+    /// The plan that is being written, if one is. Constant cost.
+    pub fn job(&self) -> Option<&Job>
+        ensures { option_map (λ j. j.now) result ≡ self.now.job }
+    {
+        self.job.as_ref()
     }
 
     /// The journal, whose end is the archive's. Constant cost.

@@ -1,5 +1,5 @@
 //! Loading an archive.
-ghost use Rattle.std.specs.Prelude.{◌≡◌, ◌<◌, ◌≤◌, [], ℕ, List, length, All, IsTrue, IfOk, OnOk, IsErrOf};
+ghost use Rattle.std.specs.Prelude.{None, ◌≡◌, ◌<◌, ◌≤◌, [], ℕ, List, length, All, IsTrue, IfOk, OnOk, IsErrOf};
 ghost use Rattle.journal_gates.specs.Records.{first_gate, new_bytes};
 ghost use Rattle.machine_model.specs.Areas.{Bytes};
 ghost use Rattle.machine_model.specs.Causes.{Rose};
@@ -38,6 +38,7 @@ impl Archive {
         // On any disk: it is live, keeps no page yet, the disk reaches as far as its journal, and it stands for a history.
         ensures live { IfOk result (λ a. IsTrue a.live) }
         ensures empty { IfOk result (λ a. a.shelf.cache ≡ []) }
+        ensures idle { IfOk result (λ a. a.job ≡ None) }
         ensures within { IfOk result (λ a. Reaches (D.disk disk.new).reach a) }
         ensures stands { IfOk result (λ a. (h : History) × StandsFor a h) }
         // What it answers of the bytes that reads gave at the start; where they stand for a history, it is the one loaded.
@@ -86,6 +87,7 @@ fn archive_of<D: Disk>(
     ensures unread { D.disk_tells → (D.disk disk.new).bytes_read.pages ≡ (D.disk disk.old).bytes_read.pages }
     ensures live { IfOk result (λ a. a.live ≡ journal.live) }
     ensures empty { IfOk result (λ a. a.shelf.cache ≡ []) }
+    ensures idle { IfOk result (λ a. a.job ≡ None) }
     ensures end { IfOk result (λ a. a.end ≡ journal.end) }
     ensures within { IfOk result (λ a. Reaches (D.disk disk.new).reach a) }
     ensures stands { IfOk result (λ a. (h : History) × StandsFor a h) }

@@ -68,9 +68,9 @@ pub returns-clause-by_reads : goal.returns-clause-by_reads
 returns-clause-by_reads g c = λ tells.
     let found = c.in_ok-journal.ensures.found tells in
     let step = c.in_ok-journal.ensures.in_step tells found.bodies found.spelled in
-    let known = IfOk-both c.archive_of.result _ _ (λ a. (a.end ≡ c.in_ok-journal.journal.end) × (a.shelf.cache ≡ [])) (λ a end empty. (end, empty)) c.archive_of.ensures.end c.archive_of.ensures.empty in
-    IfOk-both c.archive_of.result (λ a. ((a.end ≡ c.in_ok-journal.journal.end) × (a.shelf.cache ≡ [])) × Reaches (g.D.Disk.disk c.archive_of.new.disk).reach a) _ _ (λ a ((end, empty), within) all. loaded_by a (g.D.Disk.disk c.load.new.disk) (g.D.Disk.disk c.archive_of.new.disk) (g.D.Disk.disk c.args.disk.now).holds c.in_ok-journal.journal.end found.bodies all.0
-    all.1.0 empty end all.1.1 found.spelled step.1 c.archive_of.ensures.same (c.in_ok-journal.ensures.one tells) (c.in_ok-journal.ensures.pages_hold tells) within (g.met.D.Disk.reach_holds c.archive_of.new.disk Pages tells))
+    let known = IfOk-both c.archive_of.result _ _ (λ a. (a.end ≡ c.in_ok-journal.journal.end) × ((a.shelf.cache ≡ []) × (a.job ≡ None))) (λ a end (empty, idle). (end, (empty, idle))) c.archive_of.ensures.end (IfOk-both c.archive_of.result _ _ (λ a. (a.shelf.cache ≡ []) × (a.job ≡ None)) (λ a empty idle. (empty, idle)) c.archive_of.ensures.empty c.archive_of.ensures.idle) in
+    IfOk-both c.archive_of.result (λ a. ((a.end ≡ c.in_ok-journal.journal.end) × ((a.shelf.cache ≡ []) × (a.job ≡ None))) × Reaches (g.D.Disk.disk c.archive_of.new.disk).reach a) _ _ (λ a ((end, (empty, idle)), within) all. loaded_by a (g.D.Disk.disk c.load.new.disk) (g.D.Disk.disk c.archive_of.new.disk) (g.D.Disk.disk c.args.disk.now).holds c.in_ok-journal.journal.end found.bodies all.0
+    all.1.0 empty idle end all.1.1 found.spelled step.1 c.archive_of.ensures.same (c.in_ok-journal.ensures.one tells) (c.in_ok-journal.ensures.pages_hold tells) within (g.met.D.Disk.reach_holds c.archive_of.new.disk Pages tells))
     (IfOk-both c.archive_of.result _ _ _ (λ a one two. (one, two)) known c.archive_of.ensures.within) (c.archive_of.ensures.found tells found.bodies (c.deref.ensures.value ∙ found.laid_out.heads_are) step.2)
 
 pub returns-clause-in_step : goal.returns-clause-in_step
