@@ -1,12 +1,13 @@
 -- A plan that is being written goes on waiting, and its pages hold what was written.
-use Rattle.std.proofs.Common.{◌≡◌, ℕ, ◌+◌, ◌*◌, ◌≤◌, List, length, [], ◌∷◌, ◌++◌, All, Option, Some, None, IsSome, take, refl, ap, inl, inr, subst, sym, arith}
-use Rattle.std.specs.List.{AllZip}
-use Rattle.std.proofs.lemmas.List.Elements.{All-append, All-cons, All-head, All-nil, All-tail, All-take, All-weaker}
+use Rattle.std.proofs.Common.{All, IsSome, List, None, Option, Some, [], ap, arith, get_or, inl, inr, length, refl, subst, sym, take, zero-add, ℕ, ◌*◌, ◌++◌, ◌+◌, ◌<◌, ◌∙◌, ◌∷◌, ◌≡◌, ◌≤◌}
+use Rattle.std.specs.List.{AllZip, range_with_len}
+use Rattle.std.proofs.lemmas.List.Elements.{All-append, All-cons, All-head, All-map, All-nil, All-tail, All-take, All-weaker}
+use Rattle.std.proofs.lemmas.List.FromFn.{get_or-range_with_len, length-range_with_len}
 use Rattle.base_types.specs.declared.extent.Extent.{Extent}
 use Rattle.machine_model.specs.States.{DiskState}
 use Rattle.pages_area.specs.Caches.{Kept, IsHeld, StandsFor as IsCacheOf}
-use Rattle.pages_area.specs.Pieces.{pieces as page_pieces}
-use Rattle.pages_area.specs.Runs.{IsPageOf, IsTaken}
+use Rattle.pages_area.specs.Pieces.{piece, pieces as page_pieces}
+use Rattle.pages_area.specs.Runs.{IsPageOf, IsTaken, pages_for}
 use Rattle.pages_area.specs.Taken.{AreApart, HasTaken, PagesState}
 use Rattle.pages_area.specs.Wrote.{Stored, extents_of}
 use Rattle.pages_area.proofs.CacheLawLemmas.{writes-stand}
@@ -17,7 +18,6 @@ use Rattle.journal_entries.specs.declared.place.Place.{Place}
 use Rattle.journal_entries.specs.declared.plan.PlanEntry.{PlanEntry}
 use Rattle.pages_sublists.specs.Paged.{ReachPages, pages_of}
 use Rattle.pages_sublists.specs.Preparing.{IsFor, PreparedState, extents, pieces, pieces_of}
-use Rattle.pages_sublists.proofs.PagedLemmas.{pieces_lie}
 use Rattle.model_archive.specs.Histories.{History, entry_refusal}
 use Rattle.model_archive.specs.Plans.{live_extents, live_plans}
 use Rattle.model_archive.specs.Worlds.{Job as ModelJob, taken_in}
@@ -98,6 +98,18 @@ taken_more (x ∷ xs) ys zs p (inr taken) = inr (taken_more xs ys zs p taken)
 pub apart_without : (xs ys zs : List Extent) → AreApart (xs ++ (ys ++ zs)) → AreApart (xs ++ zs)
 apart_without [] ys zs apart = (apart_parts ys zs apart).1
 apart_without (x ∷ xs) ys zs apart = ((λ p mine taken. apart.0 p mine (taken_more xs ys zs p taken)), apart_without xs ys zs apart.1)
+
+all_pieces : (P : Kept → Type 0) (first : ℕ) (bytes : List ℕ) → ((i : ℕ) → i < pages_for (length bytes) → P (piece first bytes i)) → All P (page_pieces first bytes)
+all_pieces P first bytes each =
+    let n : ℕ = pages_for (length bytes) in
+    All-map P (piece first bytes) (range_with_len 0 n) (λ i d within.
+    let below : i < n = omega (arith, within, length-range_with_len 0 n) in
+    let is : get_or (range_with_len 0 n) i d ≡ i = get_or-range_with_len 0 n i d below ∙ zero-add i in
+    subst (λ j. P (piece first bytes j)) (sym is) (each i below))
+
+-- each is one of its pages
+pieces_lie : (e : Extent) (bytes : List ℕ) → length bytes ≡ e.bytes → All (λ k. IsPageOf e k.page) (page_pieces e.first bytes)
+pieces_lie e bytes long = all_pieces (λ k. IsPageOf e k.page) e.first bytes (λ i below. (omega arith, omega (arith, below, long)))
 
 -- its pages lie in its places
 pages_lie : (places : List Place) (all : List (List ℕ)) → AllZip IsFor places all → All (λ k. IsTaken (extents places) k.page) (pages_of (pieces_of places all))

@@ -34,12 +34,12 @@ plain_job (Some job) = Some (record {
 })
 
 -- It waits behind a history: its entry may come next, its places share no page with the live ones, and there is room for it among the live plans.
-pub record IsWaiting (history : History) (room : ℕ) (job : Job) : Type 0 where
+pub record IsWaiting (history : History) (free : ℕ) (job : Job) : Type 0 where
   pub storable : IsStorable history job.ready.stored.plan job.ready.prepared job.ready.frame
   pub pages_are : job.pages ≡ length (job_pages job)
   pub bytes_are : job.ready.bytes ≡ length job.ready.frame
   pub within : job.written ≤ job.pages
-  pub room : 1 ≤ room
+  pub room : 1 ≤ free
 
 -- if a plan is being written, it waits
 abbrev pub IsUnderWay : History → ℕ → Option Job → Type 0

@@ -106,10 +106,10 @@ pub record IsTakenOn (history : History) (draft : Draft) (job : Option Job) (beg
   pub plan : PlanEntry
   pub stored : IsStoredAs None history draft plan
   pub job_is : job ≡ Some (record {
-      plan = plan;
-      space = plan_space draft.list.items draft.cuts.items draft.horizon.seconds;
-      full = length draft.list.items;
-      left = pages_in (extents plan.places);
-    })
+    plan = plan;
+    space = plan_space draft.list.items draft.cuts.items draft.horizon.seconds;
+    full = length draft.list.items;
+    left = pages_in (extents plan.places);
+  })
   pub segments_are : begun.segments ≡ length plan.cuts
   pub pages_are : begun.pages ≡ pages_in (extents plan.places)
