@@ -53,7 +53,7 @@ NO_COMMANDS = [
     b"propose red", b"propose red space 2/1 uniform", b"certificate", b"certificate red blue", b"verify now", b"\r", b"\0", b"\xff\xfe",
     b"begin red guarantee 2/1", b"format", b"format 02", b"top 0 10 red", b"top 1000001 10 red", b"top 3 10", b"top 3.0 10 red", b"best 3 10 red", b"approx red", b"approx red blue 1/2",
     b"approx red 2/2", b"rough 1/2 10", b"rough 2/1 10 red", b"rough 10 red",
-    b"share 2/1 red blue", b"batch", b"batch 0", b"batch 1001", b"batch x", b"batch 1 2", b"batch -1", b"q" * 4_096,
+    b"share 17/1 red", b"share 2/1", b"share red 2/1", b"share 1/1" + b" red" * 17, b"batch", b"batch 0", b"batch 1001", b"batch x", b"batch 1 2", b"batch -1", b"q" * 4_096,
 ]  # fmt: skip
 BROKEN = [b"arrive\n", b"arrive 1 2\n", b"arrive 1 x 3\nred\n", b"arrive 1 2 3 4\n", b"  arrive 1 1969-01-01 0\n\n", b"r" * 4_097]
 SKIPPED = [b"", b"   ", b"#", b"# arrive 1 2 3", b"#\xff\xfe", b"#" * 4_096, b" " * 4_096]
@@ -150,6 +150,12 @@ class Writer:
 
     # -- lines
 
+    def share(self) -> bytes:
+        """A budget for some words, once more often asked for than the others."""
+        words = [self.chance.choice([self.word()] * 9 + ["red-blue", "moonless"]) for _ in range(self.chance.randint(1, 4))]
+        factor = self.chance.choice(["1/1", "3/2", "2/1", "5/4", "4/1", "9/7", "16/1", "033/2"])
+        return b"share %b %b" % (factor.encode(), " ".join(words).encode())
+
     def command(self) -> bytes:
         """One command, with its text where it is an arrival."""
         kind = self.chance.randrange(100)
@@ -178,7 +184,7 @@ class Writer:
         if kind < 88:
             return b"propose %b guarantee %b" % (word.encode(), self.factor())
         if kind < 91:
-            return b"certificate %b" % word.encode()
+            return self.share() if self.is_one_in(2) else b"certificate %b" % word.encode()
         if kind < 93:
             return b"verify"
         if kind < 96:

@@ -12,6 +12,7 @@ from .base import FOREVER, MOST_BATCH, MOST_BYTES, MOST_DOCUMENTS, MOST_TEXT, MO
 from .base import Broken, Differs, NoCommand, NotArchive, Refused
 from .journal import Batch, Change, Mark, Place, Plan, read_entry, read_journal, spell_journal, sublist
 from .plans import GUARANTEE, SINCE, UNIFORM, Line, Posting, near_postings, stretches, test_segments, test_width, told
+from .shares import MOST_ASKED, test_shares
 from .script import Item, count_of, document_of, factor_of, items, query_behind, time_of, tolerance_of
 from .words import Query, keys, one_key
 
@@ -51,6 +52,7 @@ class Archive:
         self.plans: dict[str, Plan] = {}
         self.words: set[str] = set()
         self.last, self.is_marked = 0, False
+        self.asked: list[tuple[str, int]] = []  # what this run was asked
         self._versions, self._length = 0, len(spell_journal([]))
 
     @classmethod
@@ -116,7 +118,7 @@ class Archive:
 
     def run(self, script: bytes, choice: Choice) -> Outcome:
         """Carries out a script, up to a reply that the program didn't show, and tells what it is to show."""
-        shown = b""
+        shown, self.asked = b"", []
         try:
             for item in items(script):
                 shown += self.shown_of(item, Choice(choice.entries, choice.shown[len(shown) :]))
@@ -164,6 +166,8 @@ class Archive:
                 return self._rough(tolerance_of(tolerance), time_of([time]), query_behind(item.line, 3))
             case [b"between", start, end, _, *_] if time_of([start]) < time_of([end]):
                 return self._between(time_of([start]), time_of([end]), query_behind(item.line, 3))
+            case [b"share", factor, _, *_] if len(item.words) <= 18:
+                return self._share(factor_of(factor), item.words[2:], choice)
             case [b"show", document, time]:
                 return self._show(document_of([document]), time_of([time]))
             case [b"verify"]:
@@ -273,7 +277,10 @@ class Archive:
         return count
 
     def _find(self, time: int, asked: bytes) -> list[str]:
-        return self._found(time, Query(asked), len(self.documents))
+        query = Query(asked)
+        reply = self._found(time, query, len(self.documents))
+        self.asked = [*self.asked, *((key, time) for key in query.words)][:MOST_ASKED]
+        return reply
 
     def _top(self, count: int, time: int, asked: bytes) -> list[str]:
         return self._found(time, Query(asked), count)
@@ -350,6 +357,21 @@ class Archive:
         if plan is None or plan.kind != GUARANTEE:
             raise Refused("14 NoPlan")
         return told(Line(self.postings(plan.key, 0, plan.horizon), plan.horizon), plan.factor, plan.segments())
+
+    def _share(self, factor: tuple[int, int], words: list[bytes], choice: Choice) -> list[str]:
+        if factor[0] > 16 * factor[1]:
+            raise NoCommand
+        lines: dict[str, Line] = {}
+        for number, word in enumerate([it.decode() for it in words], 1):
+            try:
+                lines.setdefault(*self._sealed(word))
+            except Refused as refusal:
+                raise Refused(f"{refusal} in {number}") from None
+        shown = re.match(rb"(share \S+ \d+ \d+\n)*", choice.shown)[0].decode().splitlines()
+        shares = {it.split()[1]: (int(it.split()[2]), int(it.split()[3])) for it in shown}
+        if list(shares) != list(lines):
+            raise Differs(f"{shares} aren't shares of {list(lines)}")
+        return test_shares(lines, {key: [time for it, time in self.asked if it == key] for key in lines}, factor, shares)
 
     def _plan(self, word: str, kind: int, factor: tuple[int, int], since: int, choice: Choice) -> list[str]:
         key, line = self._sealed(word)

@@ -83,6 +83,11 @@ class Query:
         self.weights[key] = max(self.weights.get(key, 0), weight if is_counted else 0)
         return "word", key
 
+    @property
+    def words(self) -> list[str]:
+        """The distinct words, in the order in which they stand first."""
+        return list(self.weights)
+
     def score(self, counts: Counter[str] | None) -> int | None:
         """The score of a text that has words so often; none where it doesn't match, or there is no text."""
         if counts is None or not _matches(self.tree, counts):
