@@ -1,5 +1,5 @@
 use Rattle.std.proofs.Common.{arith, rules, ◌≡◌, ℕ, ◌+◌, ◌++◌, ◌∷◌, List, [], length, take, Err, ap, sym, subst, ◌∙◌}
-use Rattle.std.proofs.lemmas.List.{take_more, length_push}
+use Rattle.std.proofs.lemmas.List.{take_all, take_more, length_push}
 use Rattle.machine_model.specs.States.{DiskState}
 use Rattle.pages_sublists.specs.declared.why.FetchError.{FetchError}
 use Rattle.query_best.specs.Held.{IsBadOf}
@@ -95,4 +95,20 @@ loop-word-preserved g c =
           asked_joins (pieces_for h first.holds.pages t (t + 1) words) (pieces_chosen first.holds.pages (plan_of h word) t (t + 1)) (pieces_for h first.holds.pages t (t + 1) (take (c.loop-word.word-index + 1) c.args.words.now))
           c.args.archive.now.shelf.cache c.loop-word.archive.shelf.cache c.held_of.new.archive.shelf.cache first before after (was.asked tells h stands cached) here
           (ap (pieces_for h first.holds.pages t (t + 1)) next ∙ pieces_more h first.holds.pages t (t + 1) words word);
+    }
+
+pub returns-clause-fetched : goal.returns-clause-fetched
+returns-clause-fetched g c =
+    let was = c.loop-word.invariant in
+    let first = g.D.Disk.disk c.args.disk.now in
+    let t = c.args.t.seconds in
+    let whole : take c.loop-word.word-index c.args.words.now ≡ c.args.words.now = take_all c.loop-word.word-index c.args.words.now (omega (arith, c.loop-word-test.false)) in
+    record {
+      held = λ tells h stands cached holds.
+          subst (λ (ws : List (List ℕ)). AreHeld h t ws c.loop-word.held.items c.loop-word.read) whole (was.held tells h stands cached holds);
+      bad = λ tells h stands cached damage is.
+          subst (λ (ws : List (List ℕ)). IsDamagedAmong h first.holds.pages t ws damage) whole (was.bad tells h stands cached damage is);
+      asked = λ tells h stands cached.
+          subst (λ (ws : List (List ℕ)). HasAsked (pieces_for h first.holds.pages t (t + 1) ws) c.args.archive.now.shelf.cache c.loop-word.archive.shelf.cache first (g.D.Disk.disk c.loop-word.disk)) whole (was.asked tells h stands cached);
+      damaged = λ tells h stands cached damage is. absurd cc;
     }
