@@ -6,7 +6,7 @@ use Rattle.base_commands.specs.Documents.{HasDocument}
 use Rattle.base_commands.specs.declared.command.Command.{Command}
 use Rattle.base_commands.specs.declared.command.Item.TheVariants as items
 use Rattle.model_archive.specs.Histories.{History}
-use Rattle.model_archive.specs.Steps.{Reply, Accepted, Refused, Found, FoundBest, Planned, Verified}
+use Rattle.model_archive.specs.Steps.{Reply, Accepted, Refused, Found, Planned, Verified}
 use Rattle.model_archive.specs.Runs.{Outcome}
 use Rattle.model_archive.specs.Stands.{EachStands}
 use Rattle.model_archive.specs.Worlds.{World}
@@ -28,7 +28,6 @@ told_ok (Planned summary) result told = (notes.Accepted, told)
 told_ok (Refused why) result told = (notes.Refused, told)
 told_ok (Found rows read) result told = (notes.Found (length rows) read, told)
 told_ok (Verified verdict) result told = (notes.Checked verdict, told)
-told_ok (FoundBest rows read opened blocks) result told = absurd told
 told_ok other result told = absurd told
 
 -- ---- what each image left stands for, where it stands for what is stored

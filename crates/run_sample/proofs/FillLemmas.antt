@@ -13,7 +13,7 @@ use Rattle.base_commands.specs.declared.command.Item.TheVariants as items
 use Rattle.base_sample.specs.Samples.{changes, plans, questions, sample_of}
 use Rattle.model_archive.specs.declared.verdict.Verdict.{Verdict}
 use Rattle.model_archive.specs.Legal.{IsLoadable}
-use Rattle.model_archive.specs.Steps.{Reply, Accepted, Refused, Found, FoundBest, Planned, Verified, Step}
+use Rattle.model_archive.specs.Steps.{Reply, Accepted, Refused, Found, Planned, Verified, Step}
 use Rattle.model_archive.specs.Runs.{Outcome, IsRun, state_after}
 use Rattle.model_archive.specs.Standing.{last_state}
 use Rattle.model_archive.specs.Stands.{EachStands, StandsIn}
@@ -106,7 +106,6 @@ told_verdict (Planned summary) verdict is = cc
 told_verdict (Refused why) verdict is = cc
 told_verdict (Found rows read) verdict is = cc
 told_verdict (Verified other) verdict is = cc
-told_verdict (FoundBest rows read opened blocks) verdict is = absurd is
 told_verdict other verdict is = absurd is
 
 last_next : (outcomes : List (Outcome Reply World)) (outcome : Outcome Reply World) (note : Note) → IsTold outcome.reply (Ok note) → IsLast (replies_of (outcomes ++ outcome ∷ [])) (verdict_of note)

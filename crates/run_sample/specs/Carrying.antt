@@ -7,7 +7,7 @@ use Rattle.base_commands.specs.declared.command.Command.TheVariants as plain
 use Rattle.base_commands.specs.declared.command.Item.TheVariants as items
 use Rattle.model_archive.specs.declared.verdict.Verdict.{Verdict}
 use Rattle.model_archive.specs.Histories.{History}
-use Rattle.model_archive.specs.Steps.{Reply, Accepted, Refused, Found, FoundBest, Planned, Verified, Step, Shared}
+use Rattle.model_archive.specs.Steps.{Reply, Accepted, Refused, Found, Planned, Verified, Step}
 use Rattle.model_archive.specs.Runs.{Outcome, IsRun}
 use Rattle.model_archive.specs.Standing.{last_state}
 use Rattle.model_archive.specs.Stands.{EachStands, Stands}
@@ -36,9 +36,7 @@ IsTold (Planned summary) result = result ≡ Ok notes.Accepted
 IsTold (Refused why) result = result ≡ Ok notes.Refused
 IsTold (Found rows read) result = result ≡ Ok (notes.Found (length rows) read)
 IsTold (Verified verdict) result = result ≡ Ok (notes.Checked verdict)
-IsTold (FoundBest rows read opened blocks) result = ⊥
 IsTold other result = ⊥
-IsTold (Shared shares unit budget cost) result = ⊥
 
 -- the end of a call, as a note or an error
 abbrev pub Tells : Ending → Result Note FillError → Type 0
