@@ -64,20 +64,22 @@ reads_by s old new a b in_step same but cached = record {
   pages_are = ap (λ (d : DiskState). d.holds.pages) same ∙ in_step.pages_are;
   kept_are = refl;
   read_is = refl;
+  job_is = subst (λ (x : ArchiveState). plain_job x.job ≡ s.job) (sym but) in_step.job_is;
   live = in_step.live;
   same = (let P : DiskState → Type 0 = λ d. (image : Bytes) → MayLeave d.now image → All (HasSame s.pages image.pages) (live_extents s.history) in subst P (sym same) in_step.same);
   cached = cached;
 }
 
 -- an archive that goes on standing for a history on the same disk
-pub still_by : (d : DiskState) (a b : ArchiveState) (s : Store) → AreInStepBy d a s → StandsFor b s.history → b.asked ≡ a.asked → CacheStands d b → AreInStepBy d b (with_reads s b d)
-still_by d a b s was stands unasked cached = record {
+pub still_by : (d : DiskState) (a b : ArchiveState) (s : Store) → AreInStepBy d a s → StandsFor b s.history → b.asked ≡ a.asked → CacheStands d b → b.job ≡ a.job → AreInStepBy d b (with_reads s b d)
+still_by d a b s was stands unasked cached job = record {
   stands = stands;
   asked_are = unasked ∙ was.asked_are;
   journal = step_at (stands.end_is ∙ sym was.stands.end_is) was.journal;
   pages_are = was.pages_are;
   kept_are = refl;
   read_is = refl;
+  job_is = ap plain_job job ∙ was.job_is;
   live = was.live;
   same = was.same;
   cached = cached;

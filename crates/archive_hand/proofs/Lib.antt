@@ -10,3 +10,4 @@ mod LiveLemmas
 mod PutLemmas
 mod StoreLemmas
 mod LoadLemmas
+mod JobLemmas

@@ -1,5 +1,5 @@
 //! Loading an archive.
-ghost use Rattle.std.specs.Prelude.{◌≡◌, ◌<◌, ◌≤◌, [], ℕ, List, length, All, IsTrue, IfOk, OnOk, IsErrOf};
+ghost use Rattle.std.specs.Prelude.{None, ◌≡◌, ◌<◌, ◌≤◌, [], ℕ, List, length, All, IsTrue, IfOk, OnOk, IsErrOf};
 ghost use Rattle.journal_gates.specs.Records.{first_gate, new_bytes};
 ghost use Rattle.machine_model.specs.Areas.{Bytes};
 ghost use Rattle.machine_model.specs.Causes.{Rose};
@@ -40,6 +40,7 @@ impl Archive {
         ensures live { IfOk result (λ a. IsTrue a.live) }
         ensures empty { IfOk result (λ a. a.shelf.cache ≡ []) }
         ensures unasked { IfOk result (λ a. a.asked ≡ []) }
+        ensures idle { IfOk result (λ a. a.job ≡ None) }
         ensures within { IfOk result (λ a. Reaches (D.disk disk.new).reach a) }
         ensures stands { IfOk result (λ a. (h : History) × StandsFor a h) }
         // What it answers of the bytes that reads gave at the start; where they stand for a history, it is the one loaded.
@@ -89,6 +90,7 @@ fn archive_of<D: Disk>(
     ensures live { IfOk result (λ a. a.live ≡ journal.live) }
     ensures empty { IfOk result (λ a. a.shelf.cache ≡ []) }
     ensures unasked { IfOk result (λ a. a.asked ≡ []) }
+    ensures idle { IfOk result (λ a. a.job ≡ None) }
     ensures end { IfOk result (λ a. a.end ≡ journal.end) }
     ensures within { IfOk result (λ a. Reaches (D.disk disk.new).reach a) }
     ensures stands { IfOk result (λ a. (h : History) × StandsFor a h) }

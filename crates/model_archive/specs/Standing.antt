@@ -26,3 +26,13 @@ pub record Carried {S R : Type 0} (text : R → List ℕ) (stands : S → Bytes 
   pub goes_on : GoesOn old new
   pub images : LeavesOnly old new (λ image beside. (shown : List ℕ) × (beside ≡ before ++ shown)
       × StandsAlong text stands state outcomes image shown)
+
+-- an outcome whose reply has no text leaves what stands as it was
+abbrev pub IsQuiet : {S R : Type 0} → (R → List ℕ) → (S → Bytes → Type 0) → S → R → S → Type 0
+IsQuiet text stands state reply next = text reply ≡ [] → (image : Bytes) → stands state image → stands next image
+
+-- so does each of these
+abbrev pub AreQuiet : {S R : Type 0} → (R → List ℕ) → (S → Bytes → Type 0) → S → List (Outcome R S) → Type 0
+AreQuiet text stands state [] = Unit {0}
+AreQuiet text stands state (outcome ∷ outcomes) = IsQuiet text stands state outcome.reply outcome.next
+    × AreQuiet text stands outcome.next outcomes
