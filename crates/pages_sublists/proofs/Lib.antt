@@ -4,6 +4,7 @@ pub mod KeptLemmas
 pub mod PlaceLemmas
 pub mod WriteLemmas
 pub mod PagedLemmas
+pub mod StintLemmas
 pub mod HoldLemmas
 mod UnionLemmas
 mod JoinLemmas
