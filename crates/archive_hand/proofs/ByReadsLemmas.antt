@@ -107,7 +107,7 @@ same_outside others (e ∷ live) base was pages apart same all =
 
 -- ---- what a change leaves in Pages
 
-no_longer : (h : History) (plan : PlanEntry) → h ≡ h ++ Planned plan ∷ [] → ⊥
+pub no_longer : (h : History) (plan : PlanEntry) → h ≡ h ++ Planned plan ∷ [] → ⊥
 no_longer h plan same = omega (arith, ap length same, length_push h (Planned plan))
 
 pub stocks_none : (s : Store) → AreLive (live_extents s.history) (length s.pages) → Stocks s s

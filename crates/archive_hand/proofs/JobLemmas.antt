@@ -1,13 +1,11 @@
 -- A plan that is being written goes on waiting, and its pages hold what was written.
 use Rattle.std.proofs.Common.{All, IsSome, List, None, Option, Some, [], ap, arith, get_or, inl, inr, length, refl, subst, sym, take, zero-add, ℕ, ◌*◌, ◌++◌, ◌+◌, ◌<◌, ◌∙◌, ◌∷◌, ◌≡◌, ◌≤◌}
-use Rattle.std.specs.List.{AllZip, range_with_len}
-use Rattle.std.proofs.lemmas.List.Elements.{All-append, All-cons, All-head, All-map, All-nil, All-tail, All-take, All-weaker}
-use Rattle.std.proofs.lemmas.List.FromFn.{get_or-range_with_len, length-range_with_len}
+use Rattle.std.specs.List.{AllZip}
+use Rattle.std.proofs.lemmas.List.Elements.{All-append, All-nil, All-take, All-weaker}
 use Rattle.base_types.specs.declared.extent.Extent.{Extent}
 use Rattle.machine_model.specs.States.{DiskState}
 use Rattle.pages_area.specs.Caches.{Kept, IsHeld, StandsFor as IsCacheOf}
-use Rattle.pages_area.specs.Pieces.{piece, pieces as page_pieces}
-use Rattle.pages_area.specs.Runs.{IsPageOf, IsTaken, pages_for}
+use Rattle.pages_area.specs.Runs.{IsTaken}
 use Rattle.pages_area.specs.Taken.{AreApart, HasTaken, PagesState}
 use Rattle.pages_area.specs.Wrote.{Stored, extents_of}
 use Rattle.pages_area.proofs.CacheLawLemmas.{writes-stand}
@@ -16,8 +14,9 @@ use Rattle.journal_entries.specs.declared.entry.Entry.{Entry}
 use Rattle.journal_entries.specs.declared.entry.Entry.TheVariants.{Planned}
 use Rattle.journal_entries.specs.declared.place.Place.{Place}
 use Rattle.journal_entries.specs.declared.plan.PlanEntry.{PlanEntry}
-use Rattle.pages_sublists.specs.Paged.{ReachPages, pages_of}
-use Rattle.pages_sublists.specs.Preparing.{IsFor, PreparedState, extents, pieces, pieces_of}
+use Rattle.pages_sublists.specs.Paged.{ReachPages}
+use Rattle.pages_sublists.specs.Preparing.{IsFor, PreparedState, extents, pieces}
+use Rattle.pages_sublists.proofs.PagedLemmas.{pages_lie}
 use Rattle.model_archive.specs.Histories.{History, entry_refusal}
 use Rattle.model_archive.specs.Plans.{live_extents, live_plans}
 use Rattle.model_archive.specs.Worlds.{Job as ModelJob, taken_in}
@@ -53,6 +52,9 @@ waits_later h e room more job allowed apart some is = record {
   bytes_are = is.bytes_are;
   within = is.within;
   room = some;
+  segments = is.segments;
+  horizon = is.horizon;
+  cost = is.cost;
 }
 
 -- so it waits on behind an entry that leaves the live plans
@@ -87,7 +89,7 @@ taken_same h room (Some job) is = ap (λ (ps : List Place). extents ps ++ live_e
 
 pub under_way_more : (h : History) (room more : ℕ) (job : Option Job) → room ≤ more → IsUnderWay h room job → IsUnderWay h more job
 under_way_more h room more None wider is = tt
-under_way_more h room more (Some job) wider is = record { storable = is.storable; pages_are = is.pages_are; bytes_are = is.bytes_are; within = is.within; room = omega (arith, wider, is.room) }
+under_way_more h room more (Some job) wider is = record { storable = is.storable; pages_are = is.pages_are; bytes_are = is.bytes_are; within = is.within; room = omega (arith, wider, is.room); segments = is.segments; horizon = is.horizon; cost = is.cost }
 
 -- extents in the middle left out
 taken_more : (xs ys zs : List Extent) (p : ℕ) → IsTaken (xs ++ zs) p → IsTaken (xs ++ (ys ++ zs)) p
@@ -98,29 +100,6 @@ taken_more (x ∷ xs) ys zs p (inr taken) = inr (taken_more xs ys zs p taken)
 pub apart_without : (xs ys zs : List Extent) → AreApart (xs ++ (ys ++ zs)) → AreApart (xs ++ zs)
 apart_without [] ys zs apart = (apart_parts ys zs apart).1
 apart_without (x ∷ xs) ys zs apart = ((λ p mine taken. apart.0 p mine (taken_more xs ys zs p taken)), apart_without xs ys zs apart.1)
-
-all_pieces : (P : Kept → Type 0) (first : ℕ) (bytes : List ℕ) → ((i : ℕ) → i < pages_for (length bytes) → P (piece first bytes i)) → All P (page_pieces first bytes)
-all_pieces P first bytes each =
-    let n : ℕ = pages_for (length bytes) in
-    All-map P (piece first bytes) (range_with_len 0 n) (λ i d within.
-    let below : i < n = omega (arith, within, length-range_with_len 0 n) in
-    let is : get_or (range_with_len 0 n) i d ≡ i = get_or-range_with_len 0 n i d below ∙ zero-add i in
-    subst (λ j. P (piece first bytes j)) (sym is) (each i below))
-
--- each is one of its pages
-pieces_lie : (e : Extent) (bytes : List ℕ) → length bytes ≡ e.bytes → All (λ k. IsPageOf e k.page) (page_pieces e.first bytes)
-pieces_lie e bytes long = all_pieces (λ k. IsPageOf e k.page) e.first bytes (λ i below. (omega arith, omega (arith, below, long)))
-
--- its pages lie in its places
-pages_lie : (places : List Place) (all : List (List ℕ)) → AllZip IsFor places all → All (λ k. IsTaken (extents places) k.page) (pages_of (pieces_of places all))
-pages_lie [] [] each = All-nil (λ (k : Kept). IsTaken [] k.page)
-pages_lie [] (b ∷ all) each = absurd each
-pages_lie (p ∷ places) [] each = absurd each
-pages_lie (p ∷ places) (b ∷ all) each =
-    let T : Kept → Type 0 = λ k. IsTaken (extents (p ∷ places)) k.page in
-    All-append T (page_pieces p.extent.first b) (pages_of (pieces_of places all))
-    (All-weaker (λ k. IsPageOf p.extent k.page) T (λ k is. inl is) (page_pieces p.extent.first b) (pieces_lie p.extent b (sym each.0.size)))
-    (All-weaker (λ k. IsTaken (extents places) k.page) T (λ k is. inr is) (pages_of (pieces_of places all)) (pages_lie places all each.1))
 
 -- so they are apart from sublists for which other places were taken
 pub written_apart : (h : History) (room : ℕ) (job : Option Job) (prepared : PreparedState) (live : List Extent) → IsUnderWay h room job → AllZip IsFor prepared.places prepared.spellings → AreApart (extents prepared.places ++ (places_of job ++ live))
@@ -134,12 +113,3 @@ written_apart h room (Some job) prepared live is each apart =
     subst U (sym same) (All-take (λ (k : Kept). IsTaken (extents prepared.places) k.page → ⊥) job.written (job_pages job)
     (All-weaker (λ (k : Kept). IsTaken own k.page) (λ (k : Kept). IsTaken (extents prepared.places) k.page → ⊥) (λ k mine other. from k.page other (taken_left own live k.page mine))
     (job_pages job) (pages_lie job.ready.prepared.places job.ready.prepared.spellings is.storable.each)))
-
--- what is kept and what was written, from both
-pub kept_part : (cache written : List Kept) (pages : List ℕ) → IsCacheOf (cache ++ written) pages → IsCacheOf cache pages
-kept_part [] written pages all = All-nil (IsHeld pages)
-kept_part (k ∷ cache) written pages all = All-cons (IsHeld pages) k cache (All-head (IsHeld pages) k (cache ++ written) all) (kept_part cache written pages (All-tail (IsHeld pages) k (cache ++ written) all))
-
-pub written_part : (cache written : List Kept) (pages : List ℕ) → IsCacheOf (cache ++ written) pages → IsCacheOf written pages
-written_part [] written pages all = all
-written_part (k ∷ cache) written pages all = written_part cache written pages (All-tail (IsHeld pages) k (cache ++ written) all)

@@ -11,3 +11,4 @@ mod PutLemmas
 mod StoreLemmas
 mod LoadLemmas
 mod JobLemmas
+mod WorkLemmas

@@ -109,7 +109,7 @@ lie_well h d a stands reaches same =
 pub loaded_by : (a : ArchiveState) (mid new : DiskState) (old : Bytes) (end : ℕ) (bodies : List (List ℕ)) (h : History)
     → StandsFor a h → a.shelf.cache ≡ [] → a.job ≡ None → a.end ≡ end → bodies_of h ≡ bodies → Spells old.journal bodies → IsInStep mid end bodies → OnlyReads mid new → (17 < length old.journal → Only mid.holds mid) → mid.holds.pages ≡ old.pages
     → Reaches new.reach a → length new.holds.pages ≡ new.reach.pages → a.asked ≡ []
-    → (s : Store) × (AreInStepBy new a s × Spells old.journal (bodies_of s.history) × (s.pages ≡ old.pages) × (s.asked ≡ []))
+    → (s : Store) × (AreInStepBy new a s × Spells old.journal (bodies_of s.history) × (s.pages ≡ old.pages) × (s.asked ≡ []) × (s.job ≡ None))
 loaded_by a mid new old end bodies h stands empty idle end_is same spelled step reads one pages reach long unasked =
     let there : Spells old.journal (bodies_of h) = subst (λ (l : List (List ℕ)). Spells old.journal l) (sym same) spelled in
     let read : new.holds.pages ≡ old.pages = ap (λ (d : DiskState). d.holds.pages) reads ∙ pages in
@@ -134,6 +134,7 @@ loaded_by a mid new old end bodies h stands empty idle end_is same spelled step 
           cached = none_cached new a empty idle;
         },
         there,
+        refl,
         refl,
         refl,
       ),

@@ -35,6 +35,8 @@ use Rattle.archive_hand.proofs.AddLemmas.{inside_on}
 use Rattle.archive_hand.proofs.LiveLemmas.{all_inside_with}
 use Rattle.archive_hand.proofs.JobLemmas.{apart_without, under_way_planned}
 use Rattle.archive_hand.specs.Jobs.{IsUnderWay, places_of}
+use Rattle.archive_hand.specs.declared.job.Job.{Job}
+use Rattle.journal_entries.specs.Spelling.{spelling}
 
 -- ---- what is ready may come next
 
@@ -71,6 +73,27 @@ ready_stored job h draft end count r at ready has = record {
 abbrev pub after_plan : ArchiveState → ℕ → ShelfState → ArchiveState
 after_plan a end shelf = record a { end = end; live = true; length = a.length + 1; shelf = shelf }
 
+-- it has a plan more that may come next, and this one is being written then
+pub stands_stored : (a : ArchiveState) (h : History) (stored : StoredPlan) (frame : List ℕ) (end : ℕ) (shelf : ShelfState) (job : Option Job) → StandsFor a h → IsLegalEntry h (Planned stored.plan) → frame ≡ spelling (Planned stored.plan)
+    → stored.gate ≡ end_of h - 1 → end ≡ a.end + 5 + length frame → shelf.plans ≡ with_plan a.shelf.plans stored → HasTaken shelf.pages (places_of job ++ extents_all shelf.plans) → IsUnderWay (h ++ Planned stored.plan ∷ []) shelf.room job
+    → StandsFor (record (after_plan a end shelf) { job = job }) (h ++ Planned stored.plan ∷ [])
+stands_stored a h stored frame end shelf job stands legal framed gate ends placed pages waits =
+    let plan = stored.plan in
+    let plans : shelf.plans ≡ live_plans (h ++ Planned plan ∷ []) =
+    placed ∙ ap (λ (l : List StoredPlan). with_plan l stored) stands.plans_are
+    ∙ ap (λ (n : ℕ). with_plan (live_plans h) (record { gate = n; plan = plan })) gate ∙ sym (live_plans-push h (Planned plan)) in
+    record {
+      loadable = loadable-push h (Planned plan) stands.loadable (entry_loads h (Planned plan) legal);
+      end_is = omega (arith, ends, stands.end_is, end_of-push h (Planned plan), ap length framed);
+      length_is = omega (arith, stands.length_is, length_push h (Planned plan));
+      changes_are = placed_plan h a.changes plan stands.changes_are;
+      index_is = subst (λ (cs : List (Change (List ℕ))). Indexes a.index cs) (sym (changes_still h plan)) stands.index_is;
+      plans_are = plans;
+      pages_are = subst (λ (l : List StoredPlan). HasTaken shelf.pages (places_of job ++ extents_all l)) plans pages;
+      marked_is = stands.marked_is ∙ sym (unmarked_push h (Planned plan) refl);
+      under_way = waits;
+    }
+
 pub stands_planned : (a : ArchiveState) (h : History) (draft : Draft) (end count last : ℕ) (r : Ready) (shelf : ShelfState) → StandsFor a h → IsDraft h draft → end ≡ a.end → IsReady draft end count r
     → last ≡ a.end + 5 + length r.frame → shelf.plans ≡ with_plan a.shelf.plans r.stored → HasTaken shelf.pages (places_of a.job ++ extents_all shelf.plans) → (IsSome a.job → 1 ≤ shelf.room) → StandsFor (after_plan a last shelf) (h ++ Planned r.stored.plan ∷ [])
 stands_planned a h draft end count last r shelf stands is at ready ends placed pages room =
@@ -80,17 +103,7 @@ stands_planned a h draft end count last r shelf stands is at ready ends placed p
     placed ∙ ap (λ (l : List StoredPlan). with_plan l r.stored) stands.plans_are
     ∙ ap (λ (n : ℕ). with_plan (live_plans h) (record { gate = n; plan = plan })) gate ∙ sym (live_plans-push h (Planned plan)) in
     let taken = subst (λ (l : List StoredPlan). HasTaken shelf.pages (places_of a.job ++ extents_all l)) plans pages in
-    record {
-      loadable = loadable-push h (Planned plan) stands.loadable (entry_loads h (Planned plan) (ready_legal h draft end count r is ready));
-      end_is = omega (arith, ends, stands.end_is, end_of-push h (Planned plan), ap length ready.framed);
-      length_is = omega (arith, stands.length_is, length_push h (Planned plan));
-      changes_are = placed_plan h a.changes plan stands.changes_are;
-      index_is = subst (λ (cs : List (Change (List ℕ))). Indexes a.index cs) (sym (changes_still h plan)) stands.index_is;
-      plans_are = plans;
-      pages_are = taken;
-      marked_is = stands.marked_is ∙ sym (unmarked_push h (Planned plan) refl);
-      under_way = under_way_planned h plan a.shelf.room shelf.room a.job shelf.pages taken room stands.under_way;
-    }
+    stands_stored a h r.stored r.frame last shelf a.job stands (ready_legal h draft end count r is ready) ready.framed gate ends placed pages (under_way_planned h plan a.shelf.room shelf.room a.job shelf.pages taken room stands.under_way)
 
 -- a disk that reached as far as the live plans reaches as far with one more, whose places it reaches
 pub placed_inside : (n m : ℕ) (before after : List StoredPlan) (stored : StoredPlan) (places : List Place) → n ≤ m → All (IsInside n) (extents_all before)

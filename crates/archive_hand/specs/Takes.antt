@@ -37,7 +37,7 @@ TakesBy store item (Spoiled damage) old new archive_now = KeepsBy store old new 
 
 -- what a stint says
 abbrev pub said : Stint → Reply
-said stints.Wrote = Silent
+said (stints.Wrote left) = Silent
 said (stints.Done summary) = Finished summary
 said (stints.Dropped why) = Refused why
 

@@ -29,8 +29,11 @@ pub struct Begun {
 /// What a stint of the work on a plan came to.
 #[derive(Clone, Copy, Debug, PartialEq, Eq)]
 pub enum Stint {
-    /// It left pages to be written.
-    Wrote,
+    /// It left so many pages to be written.
+    Wrote {
+        /// How many.
+        left: u64,
+    },
     /// The plan is stored.
     Done(Summary),
     /// The journal has no room for its entry; its pages are free again.

@@ -16,6 +16,7 @@ mod laws;
 mod loading;
 mod sealing;
 mod storing;
+mod working;
 
 pub use archive::Archive;
 pub use archive_entries::LoadError;

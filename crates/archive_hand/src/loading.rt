@@ -51,7 +51,7 @@ impl Archive {
         ensures by_reads { D.disk_tells
             → IfOk result (λ a. (s : Store)
             × (AreInStepBy (D.disk disk.new) a s × Spells (D.disk disk.old).holds.journal (bodies_of s.history)
-            × (s.pages ≡ (D.disk disk.old).holds.pages) × (s.asked ≡ []))) }
+            × (s.pages ≡ (D.disk disk.old).holds.pages) × (s.asked ≡ []) × (s.job ≡ None))) }
         ensures in_step { D.disk_tells → (h : History) → Stands h (D.disk disk.old).holds
             → IfOk result (λ a. AreInStep (D.disk disk.new) a (world_of h)) }
         ensures exact { D.disk_tells → OnOk result ((at : ℕ) → IsNotArchive (D.disk disk.old).holds at → ⊥) }

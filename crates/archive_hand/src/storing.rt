@@ -61,6 +61,7 @@ impl Archive {
         ensures cached { D.disk_tells → CacheStands (D.disk disk.old) self.old → IsDone result → CacheStands (D.disk disk.new) self.new }
         ensures spent { (IsErrOf result ChangeError.Memory ⊎ IsErrOf result ChangeError.Failed) → IsSpent self.old self.new }
         ensures unasked { self.new.asked ≡ self.old.asked }
+        ensures idle { self.new.job ≡ self.old.job }
         ensures refused { (h : History) → StandsFor self.old h → (why : Refusal) → IsErrOf result (ChangeError.Refused why)
             → IsFull draft (taken_in (plain_job self.old.job) h) self.old.end why × StandsFor self.new h }
         ensures stores { (h : History) → StandsFor self.old h

@@ -393,7 +393,7 @@ step_keeps P push w items.Line reply next fair range step = subst (IsFair P) (sy
 pub step_legal : (w : World) (item : Item) (reply : Reply) (next : World) → IsFair IsLegal w → HasDocument item → Step w item reply next → IsFair IsLegal next
 step_legal = step_keeps IsLegal legal-push
 
-loads_more : (h : History) (e : Entry) → IsLoadable h → IsLegalEntry h e → IsLoadable (h ++ e ∷ [])
+pub loads_more : (h : History) (e : Entry) → IsLoadable h → IsLegalEntry h e → IsLoadable (h ++ e ∷ [])
 loads_more h e is legal = loadable-push h e is (entry_loads h e legal)
 
 pub step_loads : (w : World) (item : Item) (reply : Reply) (next : World) → IsFair IsLoadable w → HasDocument item → Step w item reply next → IsFair IsLoadable next

@@ -16,7 +16,7 @@ use Rattle.pages_area.specs.Live.{IsInside}
 use Rattle.pages_area.specs.Pieces.{piece, pieces}
 use Rattle.pages_area.specs.Ranges.{SameOutside, range_of}
 use Rattle.pages_area.specs.Runs.{pages_for}
-use Rattle.pages_area.specs.Wrote.{HoldsPiece, Stored}
+use Rattle.pages_area.specs.Wrote.{HoldsPiece, Stored, ranges_of}
 use Rattle.pages_area.proofs.WroteLemmas.{stored_synced}
 use Rattle.journal_entries.specs.declared.place.Place.{Place}
 use Rattle.pages_sublists.specs.Paged.{ReachPages, WrotePages, page_ranges, pages_of}
@@ -24,12 +24,13 @@ use Rattle.pages_sublists.specs.Preparing.{IsFor, extents, pieces_of}
 use Rattle.pages_sublists.proofs.PagedLemmas.{all_left, all_right, changes_wider, paged_untouched, piece_long, some_outside, untouched_part}
 use Rattle.pages_sublists.proofs.WriteLemmas.{extents_same}
 
--- some pages of places change only what these have
+-- some pages of places change only what the bytes for these have
 pub some_change_places : (places : List Place) (all : List (List ℕ)) (m s : ℕ) (a b : DiskState) → AllZip IsFor places all → ChangesOnly (page_ranges (take m (drop s (pages_of (pieces_of places all))))) a b
-    → ChangesOnly (map range_of (extents places)) a b
+    → ChangesOnly (ranges_of (pieces_of places all)) a b
 some_change_places places all m s a b each changes =
-    changes_wider (page_ranges (take m (drop s (pages_of (pieces_of places all))))) (map range_of (extents places)) a b
-    (λ k un. untouched_part (λ x. record { at = x.page * 4096; count = length x.bytes }) m s (pages_of (pieces_of places all)) k (paged_untouched places all k each un)) changes
+    subst (λ (rs : List Range). ChangesOnly rs a b) (sym (ap (map range_of) (extents_same places all each)))
+    (changes_wider (page_ranges (take m (drop s (pages_of (pieces_of places all))))) (map range_of (extents places)) a b
+    (λ k un. untouched_part (λ x. record { at = x.page * 4096; count = length x.bytes }) m s (pages_of (pieces_of places all)) k (paged_untouched places all k each un)) changes)
 
 -- what holds of each piece of an extent's bytes holds of the piece of one page
 held_at : (P : Kept → Type 0) (first : ℕ) (bytes : List ℕ) (i : ℕ) → All P (pieces first bytes) → i < pages_for (length bytes) → P (piece first bytes i)
