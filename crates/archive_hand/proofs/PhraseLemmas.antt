@@ -45,15 +45,6 @@ map_phrase kind h (Some word) One Other A B refused goes (inr (known, (list, is,
 
 -- ---- a plan that is being written
 
--- beside it a plan of a word is refused, or it goes on
-pub of_still : (job : Option Job) (word : List ℕ) (Refuses : Refusal → Type 0) (A C : Type 0) → ((why : Refusal) → Refuses why → C) → (A → C) → OfStill job word Refuses A → C
-of_still None word Refuses A C refused goes of = goes of
-of_still (Some job) word Refuses A C refused goes of = go (bytes_eq job.plan.word word) of
-  where
-    go : (b : Bool) → ByWord b (Refuses refusals.Busy) A → C
-    go true is = refused refusals.Busy is
-    go false is = goes is
-
 -- the tests by other names of what they come to
 pub map_still : (job : Option Job) (word : List ℕ) (One Other : Refusal → Type 0) (A B : Type 0) → ((why : Refusal) → One why → Other why) → (A → B) → OfStill job word One A → OfStill job word Other B
 map_still None word One Other A B refused goes of = goes of

@@ -1,5 +1,5 @@
 -- Where the pages hold what the history's plans need, a step by what reads give is the abstract archive's.
-use Rattle.std.proofs.Common.{◌≡◌, ◌⊎◌, ℕ, ◌+◌, ◌^◌, List, [], ◌∷◌, ◌++◌, Bool, true, false, nat_lt, Option, Some, None, Result, Ok, Err, inl, inr, refl, ap, sym, subst}
+use Rattle.std.proofs.Common.{◌≡◌, ◌⊎◌, ℕ, ◌+◌, ◌^◌, List, [], ◌∷◌, ◌++◌, Bool, true, false, is_some, nat_lt, Option, Some, None, Result, Ok, Err, inl, inr, refl, ap, sym, subst, ◌∙◌}
 use Rattle.std.specs.List.{flat_map}
 use Rattle.machine_model.specs.Areas.{Bytes}
 use Rattle.machine_model.specs.States.{DiskState}
@@ -49,11 +49,13 @@ use Rattle.model_archive.proofs.HoldLemmas.{held_alike, held_push, held_with}
 use Rattle.model_archive.proofs.OutcomeLemmas.{command_keeps, loads_more, stint_loads}
 use Rattle.pages_sublists.specs.declared.why.Damage.{Damage}
 use Rattle.archive_check.proofs.SoundLemmas.{stands_verified}
+use Rattle.model_archive.proofs.SpeakLemmas.{Speaks, approximates_speak, begins_speak, begun_works, carries_speak, certifies_speak, proposes_speak, says, shares_speak}
+use Rattle.model_archive.proofs.StoringLemmas.{still_keeps}
 use Rattle.model_archive.proofs.StandsLemmas.{spells_one_history}
 use Rattle.archive_hand.specs.States.{ArchiveState, AreInStep, AreInStepBy}
-use Rattle.archive_hand.specs.Stored.{Store, AnswersBest, AsksOf, Changes, ReadsOn, Spoils, StandsBy, Stocks, StoreStep, StoreStint, world_by}
+use Rattle.archive_hand.specs.Stored.{Store, Answers, AnswersBest, AsksOf, Changes, MakesAt, MakesBest, MakesOver, MakesRough, MakesTop, ReadsOn, Spoils, StandsBy, Stocks, StoreStep, StoreStint, is_at_work, world_by}
 use Rattle.archive_hand.proofs.ByReadsLemmas.{stands_by}
-use Rattle.archive_hand.proofs.PhraseLemmas.{map_phrase, of_still}
+use Rattle.archive_hand.proofs.PhraseLemmas.{map_phrase}
 
 -- what is stored stands for its history: a load accepts that, and the pages hold what its live plans need
 pub record IsStanding (s : Store) : Type 0 where
@@ -148,7 +150,7 @@ command_more asked job h (commands.Plan phrase kind factor) reply next step =
     phrase_of kind h (spelled_key (one_term phrase)) (IsMore h next)
     (map_phrase kind h (spelled_key (one_term phrase)) (λ why. Declines h why reply next) (λ why. IsMore h next) (λ word list. OfStill job word (λ why. Declines h why reply next) (StoresPlan job h kind factor word list reply next)) (λ word list. IsMore h next)
     (λ why declines. inl declines.0)
-    (λ word list of. of_still job word (λ why. Declines h why reply next) (StoresPlan job h kind factor word list reply next) (IsMore h next) (λ why declines. inl declines.0) (stored_more job h kind factor word list reply next) of) step)
+    (λ word list of. still_keeps (IsMore h next) (λ why. Declines h why reply next) (StoresPlan job h kind factor word list reply next) (λ why declines. inl declines.0) (stored_more job h kind factor word list reply next) job word of) step)
 command_more asked job h (commands.Share factor words) reply next step = inl step.0
 command_more asked job h other reply next step = inl step.0
 
@@ -246,6 +248,10 @@ bested s count at expr true reply next standing (Ok query, read, (told, made), a
 bested s count at expr true reply next standing (Err place, read, is, asks) = (asks_same s next at.seconds (at.seconds + 1) (Err place) asks, (Err place, read, is))
 bested s count at expr false reply next standing (same, replied) = (leaves_all s s next same (refl, refl, refl, refl), replied)
 
+best_leaves : (b : Bool) (s : Store) (count : BestCount) (at : Time) (expr : List ℕ) (reply : Reply) (next : Store) → AnswersBest b s count at expr reply next → next.job ≡ s.job
+best_leaves true s count at expr reply next (query, read, replied, asks) = (asks_same s next at.seconds (at.seconds + 1) query asks).3
+best_leaves false s count at expr reply next (same, replied) = ap (λ (x : Store). x.job) same
+
 spanned : (s : Store) (span : Span) (expr : List ℕ) (reply : Reply) (next : Store) → IsStanding s → StoreStep s (items.Command (commands.Between span expr)) reply next → Goes s (items.Command (commands.Between span expr)) reply next
 spanned s span expr reply next standing (Ok query, read, (rows, count, made, is), asks) =
     let same = asks_same s next span.from span.to (Ok query) asks in
@@ -290,6 +296,57 @@ step_standing s (items.Command commands.Verify) reply next standing range (reads
     let verifies = stands_verified s.history image verdict (record { spelled = spelled; loadable = standing.loadable; held = standing.held }) checked in
     asked s next ((verdict : Verdict) × Verifies s.history verdict × (reply ≡ Verified verdict)) (reads_all s next reads) (verdict, verifies, is) standing
 step_standing s items.Line reply next standing range (same, is) = ((ap world_by same, is), same_next s next (ap (λ (x : Store). x.history) same) (ap (λ (x : Store). x.pages) same) standing)
+
+-- each item is answered, whatever lies in Pages
+replied_so : (Makes : Query → Reply → Type 0) → ((query : Query) (reply : Reply) → Makes query reply → Speaks reply) → (s : Store) (a b : ℕ) (text : List ℕ) (reply : Reply) (next : Store) → Answers Makes s a b text reply next → Speaks reply
+replied_so Makes each s a b text reply next (Ok query, read, makes, asks) = each query reply makes
+replied_so Makes each s a b text reply next (Err place, read, is, asks) = says reply _ is tt
+
+best_speaks : (b : Bool) (s : Store) (count : BestCount) (at : Time) (text : List ℕ) (reply : Reply) (next : Store) → AnswersBest b s count at text reply next → Speaks reply
+best_speaks true s count at text reply next is = replied_so (MakesBest s count at) (λ query reply by. says reply _ by.0.4 tt) s at.seconds (at.seconds + 1) text reply next is
+best_speaks false s count at text reply next (same, (Ok query, read, is)) = says reply _ is tt
+best_speaks false s count at text reply next (same, (Err place, read, is)) = says reply _ is tt
+
+pub store_speaks : (s : Store) (item : Item) (reply : Reply) (next : Store) → StoreStep s item reply next → Speaks reply
+store_speaks s (items.Command (commands.Arrive doc at text)) reply next is = carries_speak s.asked s.job s.history (commands.Arrive doc at text) reply next.history is.0
+store_speaks s (items.Command (commands.Delete doc at)) reply next is = carries_speak s.asked s.job s.history (commands.Delete doc at) reply next.history is.0
+store_speaks s (items.Command commands.Format) reply next is = carries_speak s.asked s.job s.history commands.Format reply next.history is.0
+store_speaks s (items.Command (commands.Batch batch)) reply next is = carries_speak s.asked s.job s.history (commands.Batch batch) reply next.history is.0
+store_speaks s (items.Command (commands.Plan word kind fraction)) reply next is = carries_speak s.asked s.job s.history (commands.Plan word kind fraction) reply next.history is.0
+store_speaks s (items.Command (commands.Find at expr)) reply next is = replied_so (MakesAt s at) (λ query reply by. says reply _ by.3 tt) s at.seconds (at.seconds + 1) expr reply (record next { asked = s.asked }) is.0
+store_speaks s (items.Command (commands.Top count at expr)) reply next is = replied_so (MakesTop s count at) (λ query reply by. says reply _ by.3 tt) s at.seconds (at.seconds + 1) expr reply next is
+store_speaks s (items.Command (commands.Rough tolerance at expr)) reply next is = replied_so (MakesRough s tolerance at) (λ query reply by. says reply _ by.3 tt) s 0 (2 ^ 40) expr reply next is
+store_speaks s (items.Command (commands.Between span expr)) reply next is = replied_so (MakesOver s span) (λ query reply by. says reply _ by.3 tt) s span.from span.to expr reply next is
+store_speaks s (items.Command (commands.Begin word factor)) reply next is = begins_speak (world_by s) word factor reply (world_by next) is.0
+store_speaks s (items.Command (commands.Approx word tolerance)) reply next is = approximates_speak s.history word tolerance reply is.1
+store_speaks s (items.Command (commands.Best count at expr)) reply next is = best_speaks (asks_for_any expr) s count at expr reply next is
+store_speaks s (items.Command (commands.Show doc at)) reply next is = says reply _ is.1 tt
+store_speaks s (items.Command (commands.Propose word fraction)) reply next is = proposes_speak s.history word fraction reply is.1
+store_speaks s (items.Command (commands.Certificate word)) reply next is = certifies_speak s.history word reply is.1
+store_speaks s (items.Command (commands.Share factor words)) reply next is = shares_speak s.asked s.history words factor.fraction reply is.1
+store_speaks s (items.Command commands.Verify) reply next is = says reply _ is.1.3 tt
+store_speaks s items.Line reply next is = says reply _ is.1 tt
+
+-- and no item ends the work on a plan
+pub works_on_by : (s : Store) (item : Item) (reply : Reply) (next : Store) → StoreStep s item reply next → is_at_work s ≡ true → is_at_work next ≡ true
+works_on_by s (items.Command (commands.Begin word factor)) reply next is working = begun_works (world_by s) word factor reply (world_by next) is.0 working
+works_on_by s (items.Command (commands.Arrive doc at text)) reply next is working = ap is_some is.1 ∙ working
+works_on_by s (items.Command (commands.Delete doc at)) reply next is working = ap is_some is.1 ∙ working
+works_on_by s (items.Command commands.Format) reply next is working = ap is_some is.1 ∙ working
+works_on_by s (items.Command (commands.Batch batch)) reply next is working = ap is_some is.1 ∙ working
+works_on_by s (items.Command (commands.Plan word kind fraction)) reply next is working = ap is_some is.1 ∙ working
+works_on_by s (items.Command (commands.Find at expr)) reply next is working = let (query, read, replied, asks) = is.0 in ap is_some (asks_same s (record next { asked = s.asked }) at.seconds (at.seconds + 1) query asks).3 ∙ working
+works_on_by s (items.Command (commands.Top count at expr)) reply next (query, read, replied, asks) working = ap is_some (asks_same s next at.seconds (at.seconds + 1) query asks).3 ∙ working
+works_on_by s (items.Command (commands.Rough tolerance at expr)) reply next (query, read, replied, asks) working = ap is_some (asks_same s next 0 (2 ^ 40) query asks).3 ∙ working
+works_on_by s (items.Command (commands.Between span expr)) reply next (query, read, replied, asks) working = ap is_some (asks_same s next span.from span.to query asks).3 ∙ working
+works_on_by s (items.Command (commands.Best count at expr)) reply next is working = ap is_some (best_leaves (asks_for_any expr) s count at expr reply next is) ∙ working
+works_on_by s (items.Command (commands.Approx word tolerance)) reply next is working = ap is_some (same_all s next is.0).3 ∙ working
+works_on_by s (items.Command (commands.Show doc at)) reply next is working = ap is_some (reads_all s next is.0).3 ∙ working
+works_on_by s (items.Command (commands.Propose word fraction)) reply next is working = ap is_some (same_all s next is.0).3 ∙ working
+works_on_by s (items.Command (commands.Certificate word)) reply next is working = ap is_some (same_all s next is.0).3 ∙ working
+works_on_by s (items.Command (commands.Share factor words)) reply next is working = ap is_some (same_all s next is.0).3 ∙ working
+works_on_by s (items.Command commands.Verify) reply next is working = ap is_some (reads_all s next is.0).3 ∙ working
+works_on_by s items.Line reply next is working = ap is_some (same_all s next is.0).3 ∙ working
 
 -- a stint of the work on a plan
 pub stint_standing : (s : Store) (reply : Reply) (next : Store) → IsStanding s → MayBeStored s.history s.job → StoreStint s reply next → Works (world_by s) reply (world_by next) × IsStanding next

@@ -299,7 +299,7 @@ stint_done s a job end shelf told old new in_step is last fits ends plans taken 
 
 -- where the disk failed in it, all is as it was, or there is what would have come
 pub stint_stopped : (s : Store) (a : ArchiveState) (job : Job) (old new : DiskState) → AreInStepBy old a s → a.job ≡ Some job → job.pages - job.written ≤ 8 → a.end + gate_bytes + length job.ready.frame ≤ limit_of Journal
-    → HasStopped (bodies_of s.history) job.ready.frame (pieces job.ready.prepared) old new → KeepsBy s old new ⊎ ((reply : Reply) × (next : Store) × StoreStint s reply next × LeadsBy s next old new)
+    → HasStopped (bodies_of s.history) job.ready.frame (pieces job.ready.prepared) old new → KeepsBy s old new ⊎ ((told : Summary) × (next : Store) × StoreStint s (Finished told) next × LeadsBy s next old new)
 stint_stopped s a job old new in_step is last fits stopped =
     let h = s.history in
     let plan = job.ready.stored.plan in
@@ -310,5 +310,5 @@ stint_stopped s a job old new in_step is last fits stopped =
       | inr put ↦
           let there = put_there s plan job.ready.prepared job.ready.frame put.0 old new a a in_step storable put.1 in
           let done = done_stint s a a job put.0 told old new in_step is last fits refl there in
-          inr (Finished told, record (with_entry s (Planned plan) put.0 a new) { job = None }, done.0, done.1)
+          inr (told, record (with_entry s (Planned plan) put.0 a new) { job = None }, done.0, done.1)
     ]

@@ -4,6 +4,7 @@ use Rattle.machine_model.specs.declared.area.Failed.{Failed}
 use Rattle.machine_model.specs.States.{DiskState}
 use Rattle.base_commands.specs.declared.command.Item.{Item}
 use Rattle.pages_sublists.specs.declared.why.Damage.{Damage}
+use Rattle.model_archive.specs.declared.summary.Summary.{Summary}
 use Rattle.model_archive.specs.Steps.{Reply, Finished, Refused, Silent}
 use Rattle.archive_hand.specs.States.{ArchiveState, AreInStepBy}
 use Rattle.archive_hand.specs.Stored.{Store, IsSameStore, Spoils, StoreStep, StoreStint, TellsNoEntry}
@@ -42,9 +43,9 @@ said (stints.Done summary) = Finished summary
 said (stints.Dropped why) = Refused why
 
 -- What a stint does: it is one of the abstract archive's, and the archive is in step with what came of it. Where the disk failed, all is as it was, or
--- there is what would have come. Each image left since stands for what was before it or after it.
+-- the plan is stored. Each image left since stands for what was before it or after it.
 abbrev pub TakesStint : Store → Result Stint Failed → DiskState → DiskState → ArchiveState → Type 0
 TakesStint store (Ok stint) old new archive_now = (next : Store) × StoreStint store (said stint) next × LeadsBy store next old new
     × AreInStepBy new archive_now next
 TakesStint store (Err failed) old new archive_now = KeepsBy store old new
-    ⊎ ((reply : Reply) × (next : Store) × StoreStint store reply next × LeadsBy store next old new)
+    ⊎ ((told : Summary) × (next : Store) × StoreStint store (Finished told) next × LeadsBy store next old new)

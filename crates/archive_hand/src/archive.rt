@@ -1,5 +1,5 @@
 //! The open archive, and what it is asked that keeps it consistent.
-ghost use Rattle.std.specs.Prelude.{◌≡◌, ◌+◌, ◌<◌, ◌≤◌, [], length, get_or, option_map, Some, None, Ok, Err, IfOk, IfErr, IsErr, OnOk};
+ghost use Rattle.std.specs.Prelude.{◌≡◌, ◌+◌, ◌<◌, ◌≤◌, [], length, get_or, is_some, option_map, Some, None, Ok, Err, IfOk, IfErr, IsErr, OnOk};
 ghost use Rattle.journal_gates.specs.Records.{new_bytes};
 ghost use Rattle.machine_model.specs.Calls.{OnlyReads};
 ghost use Rattle.pages_sublists.specs.Fetching.{IfDamaged, IfFailed};
@@ -155,6 +155,13 @@ impl Archive {
         ensures { option_map (λ j. j.now) result ≡ self.now.job }
     {
         self.job.as_ref()
+    }
+
+    /// Whether a plan is being written. Constant cost.
+    pub fn is_at_work(&self) -> bool
+        ensures { result ≡ is_some self.now.job }
+    {
+        self.job.is_some()
     }
 
     /// The journal, whose end is the archive's. Constant cost.

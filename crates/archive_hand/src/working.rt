@@ -12,13 +12,13 @@ ghost use Rattle.pages_sublists.specs.Paged.{ReachPages, WrotePages, page_ranges
 ghost use Rattle.pages_sublists.specs.Preparing.{extents, pieces};
 ghost use Rattle.model_archive.specs.Histories.{History};
 ghost use Rattle.model_archive.specs.Plans.{live_extents, with_plan};
-ghost use Rattle.model_archive.specs.Steps.{pages_in};
+ghost use Rattle.model_archive.specs.Steps.{left_of, pages_in};
 ghost use Rattle.model_archive.specs.declared.refusal.Refusal.{Refusal as PlainRefusal};
 ghost use Rattle.archive_plans.specs.Readying.{IsFull};
 ghost use Rattle.archive_plans.specs.Shelves.{extents_all};
 ghost use Rattle.archive_hand.specs.Adding.{IsSpent};
 ghost use Rattle.archive_hand.specs.Jobs.{TellsLeft, job_pages, plain_job, written_of};
-ghost use Rattle.archive_hand.specs.States.{AreInStepBy, Reaches, StandsFor};
+ghost use Rattle.archive_hand.specs.States.{AreInStepBy, CacheStands, Reaches, StandsFor};
 ghost use Rattle.archive_hand.specs.Stored.{Store};
 ghost use Rattle.archive_hand.specs.Storing.{HasPutDown, HasStopped, IsDraft, IsTakenOn};
 ghost use Rattle.archive_hand.specs.Takes.{TakesStint};
@@ -93,6 +93,8 @@ impl Archive {
         ensures within { Reaches (D.disk disk.new).reach self.new }
         ensures live { IsTrue self.new.live ↔ IsOk result }
         ensures left { IfOk result (TellsLeft self.new.job) }
+        ensures less { OnOk result (left_of (plain_job self.new.job) < left_of (plain_job self.old.job)) }
+        ensures cached { D.disk_tells → CacheStands (D.disk disk.old) self.old → OnOk result (CacheStands (D.disk disk.new) self.new) }
         ensures spent { OnErr result (IsSpent self.old self.new) }
         ensures works { D.disk_tells → (s : Store) → AreInStepBy (D.disk disk.old) self.old s
             → TakesStint s result (D.disk disk.old) (D.disk disk.new) self.new }

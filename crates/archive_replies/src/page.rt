@@ -2,7 +2,7 @@
 ghost use Rattle.std.specs.Prelude.{◌≡◌, ◌+◌, ◌≤◌, [], ◌++◌, length, codes, decimal, Some, None, IfOk, OnOk, OnErr};
 ghost use Rattle.archive_replies.specs.Pages.{reply_room};
 ghost use Rattle.model_archive.specs.Replies.{approx_text, cost_text, detail_text, end_text, full_text, near_text, node_text, reply_text, row_text, segment_text, space_text, span_text, summary_line, which_text, best_end_text};
-ghost use Rattle.model_archive.specs.Steps.{Accepted, Refused, RefusedIn, Found, FoundBest, Spanned, Approximated, Neared, Version, Proposed, Planned, Begun, Finished};
+ghost use Rattle.model_archive.specs.Steps.{Accepted, Refused, RefusedIn, Found, FoundBest, Spanned, Approximated, Neared, Version, Proposed, Planned, Begun, Finished, Silent};
 
 use base_types::{Posting, Span, Which};
 use itoa::Buffer;
@@ -206,6 +206,13 @@ impl ReplyPage {
     {
         self.clear();
         self.put_summary(b"done", summary);
+    }
+
+    /// Says nothing, in place of what the page held. It takes no memory. Constant cost.
+    pub fn silent(&mut self)
+        ensures { self.new.bytes ≡ reply_text Silent }
+    {
+        self.clear();
     }
 
     /// Adds the line of a plan that was stored, behind this word. It takes no memory.

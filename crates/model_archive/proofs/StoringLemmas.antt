@@ -270,7 +270,7 @@ chosen_keeps C Refuses GoesOn refused job h kind factor phrase word list on term
 ]
 
 -- what holds where a plan is refused, and where it isn't, holds beside a plan that is being written
-still_keeps : (C : Type 0) (Refuses : Refusal → Type 0) (Rest : Type 0) → ((why : Refusal) → Refuses why → C) → (Rest → C) → (job : Option Job) (word : List ℕ) → OfStill job word Refuses Rest → C
+pub still_keeps : (C : Type 0) (Refuses : Refusal → Type 0) (Rest : Type 0) → ((why : Refusal) → Refuses why → C) → (Rest → C) → (job : Option Job) (word : List ℕ) → OfStill job word Refuses Rest → C
 still_keeps C Refuses Rest refused rest None word of = rest of
 still_keeps C Refuses Rest refused rest (Some job) word of = go (bytes_eq job.plan.word word) of
   where
@@ -278,7 +278,7 @@ still_keeps C Refuses Rest refused rest (Some job) word of = go (bytes_eq job.pl
     go true is = refused refusals.Busy is
     go false is = rest is
 
-idle_keeps : (C : Type 0) (Refuses : Refusal → Type 0) (Rest : Type 0) → ((why : Refusal) → Refuses why → C) → (Rest → C) → (job : Option Job) (word : List ℕ) → OfIdle job word Refuses Rest → C
+pub idle_keeps : (C : Type 0) (Refuses : Refusal → Type 0) (Rest : Type 0) → ((why : Refusal) → Refuses why → C) → (Rest → C) → (job : Option Job) (word : List ℕ) → OfIdle job word Refuses Rest → C
 idle_keeps C Refuses Rest refused rest None word of = rest of
 idle_keeps C Refuses Rest refused rest (Some job) word of = go (bytes_eq job.plan.word word) of
   where
