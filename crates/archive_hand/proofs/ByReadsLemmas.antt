@@ -105,6 +105,14 @@ same_outside others (e ∷ live) base was pages apart same all =
     (omega (arith, one.0, same.no_shorter), bytes_stay e others was pages own (λ some. one.0) same ∙ one.1)
     (same_outside others live base was pages (λ p other mine. apart p other (inr mine)) same (All-tail (HasSame base was) e live all))
 
+-- pages that have what those had have it of each other
+pub both_same : (was pages image : List ℕ) (es : List Extent) → All (HasSame was pages) es → All (HasSame was image) es → All (HasSame pages image) es
+both_same was pages image [] one two = All-nil (HasSame pages image)
+both_same was pages image (e ∷ es) one two =
+    let mine = All-head (HasSame was pages) e es one in
+    let its = All-head (HasSame was image) e es two in
+    All-cons (HasSame pages image) e es (its.0, its.1 ∙ sym mine.1) (both_same was pages image es (All-tail (HasSame was pages) e es one) (All-tail (HasSame was image) e es two))
+
 -- ---- what a change leaves in Pages
 
 pub no_longer : (h : History) (plan : PlanEntry) → h ≡ h ++ Planned plan ∷ [] → ⊥

@@ -46,20 +46,23 @@ use Rattle.model_archive.proofs.ChosenLemmas.{held_undamaged, made_at, made_over
 use Rattle.model_archive.proofs.RoughMade.{made_rough}
 use Rattle.model_archive.proofs.HistoryLemmas.{loadable-middle}
 use Rattle.model_archive.proofs.HoldLemmas.{held_alike, held_push, held_with}
-use Rattle.model_archive.proofs.OutcomeLemmas.{command_keeps, loads_more, stint_loads}
+use Rattle.model_archive.proofs.OutcomeLemmas.{command_keeps, command_later, loads_more, stint_loads}
 use Rattle.pages_sublists.specs.declared.why.Damage.{Damage}
 use Rattle.archive_check.proofs.SoundLemmas.{stands_verified}
 use Rattle.model_archive.proofs.SpeakLemmas.{Speaks, approximates_speak, begins_speak, begun_works, carries_speak, certifies_speak, proposes_speak, says, shares_speak}
-use Rattle.model_archive.proofs.StoringLemmas.{still_keeps}
+use Rattle.model_archive.proofs.StoringLemmas.{begins_keep, still_keeps}
 use Rattle.model_archive.proofs.StandsLemmas.{spells_one_history}
+use Rattle.archive_hand.specs.Jobs.{IsUnderWay, plain_job}
+use Rattle.archive_hand.specs.declared.job.Job.{Job as HandJob}
 use Rattle.archive_hand.specs.States.{ArchiveState, AreInStep, AreInStepBy}
 use Rattle.archive_hand.specs.Stored.{Store, Answers, AnswersBest, AsksOf, Changes, MakesAt, MakesBest, MakesOver, MakesRough, MakesTop, ReadsOn, Spoils, StandsBy, Stocks, StoreStep, StoreStint, is_at_work, world_by}
 use Rattle.archive_hand.proofs.ByReadsLemmas.{stands_by}
 use Rattle.archive_hand.proofs.PhraseLemmas.{map_phrase}
 
--- what is stored stands for its history: a load accepts that, and the pages hold what its live plans need
+-- what is stored stands for its history: a load accepts that, the pages hold what its live plans need, and a plan that is being written could be stored
 pub record IsStanding (s : Store) : Type 0 where
   pub loadable : IsLoadable s.history
+  pub may : MayBeStored s.history s.job
   pub held : HoldsPlans s.history s.pages
 
 -- so each image that stands for it stands for the history
@@ -68,9 +71,18 @@ stands_standing s image standing stands = record { spelled = stands.spelled; loa
 
 -- ---- an archive and its disk that are in step with a history
 
+-- what is being written waits behind it
+pub may_by : (d : DiskState) (a : ArchiveState) (s : Store) → AreInStepBy d a s → MayBeStored s.history s.job
+may_by d a s in_step = subst (MayBeStored s.history) in_step.job_is (go a.job in_step.stands.under_way)
+  where
+    go : (o : Option HandJob) → IsUnderWay s.history a.shelf.room o → MayBeStored s.history (plain_job o)
+    go None waits = tt
+    go (Some job) waits = waits.storable.entry
+
 pub in_step_standing : (d : DiskState) (a : ArchiveState) (w : World) → (in_step : AreInStep d a w) → IsStanding in_step.store
 in_step_standing d a w in_step = record {
   loadable = in_step.by_reads.stands.loadable;
+  may = may_by d a in_step.store in_step.by_reads;
   held = subst (λ (x : World). HoldsPlans x.history in_step.store.pages) (sym in_step.world_is) in_step.held;
 }
 
@@ -187,9 +199,10 @@ held_next s next standing stocks loads (inr (e, is)) = subst (λ (h : History). 
     go (entries.Planned plan) is = held_with IsFitFor s.history plan next.pages standing.loadable (subst (λ (h : History). AreApart (live_extents h)) is stocks.apart) now (subst (λ (h : History). HoldsPlan h next.pages plan) is (stocks.held plan is))
 
 -- a step that leaves the history and the pages
-same_next : (s next : Store) → next.history ≡ s.history → next.pages ≡ s.pages → IsStanding s → IsStanding next
-same_next s next history pages standing = record {
+same_next : (s next : Store) → next.history ≡ s.history → next.pages ≡ s.pages → MayBeStored next.history next.job → IsStanding s → IsStanding next
+same_next s next history pages may standing = record {
   loadable = subst IsLoadable (sym history) standing.loadable;
+  may = may;
   held = subst (λ (h : History). HoldsPlans h next.pages) (sym history) (subst (λ (ps : List ℕ). HoldsPlans s.history ps) (sym pages) standing.held);
 }
 
@@ -204,6 +217,14 @@ asks_same : (s next : Store) (a b : ℕ) (r : Result Query ℕ) → AsksOf s a b
 asks_same s next a b (Ok query) is = leaves_all s _ next is (refl, refl, refl, refl)
 asks_same s next a b (Err place) is = leaves_all s _ next is (refl, refl, refl, refl)
 
+leaves_may : (s next : Store) → Leaves s next → IsStanding s → IsStanding next
+leaves_may s next same standing =
+    same_next s next same.0 same.1 (subst (λ (h : History). MayBeStored h next.job) (sym same.0) (subst (λ (o : Option Job). MayBeStored s.history o) (sym same.3) standing.may)) standing
+
+noted_may : (s next : Store) → Leaves s (record next { asked = s.asked }) → IsStanding s → IsStanding next
+noted_may s next same standing =
+    same_next s next same.0 same.1 (subst (λ (h : History). MayBeStored h next.job) (sym same.0) (subst (λ (o : Option Job). MayBeStored s.history o) (sym same.3) standing.may)) standing
+
 -- ---- the step
 
 -- what becomes of a store by an item
@@ -215,33 +236,33 @@ changed : (s next : Store) (c : Command) (reply : Reply) → IsStanding s → Ha
     → (CarriesOut s.asked s.job s.history c reply next.history × Notes s.asked c next.asked × (next.job ≡ s.job)) × IsStanding next
 changed s next c reply standing range noted (carries, still, stocks) =
     let loads = command_keeps IsLoadable loads_more s.asked s.job s.history c reply next.history standing.loadable range carries in
-    ((carries, noted, still), record { loadable = loads; held = held_next s next standing stocks loads (command_more s.asked s.job s.history c reply next.history carries) })
+    ((carries, noted, still), record { loadable = loads; may = subst (λ (o : Option Job). MayBeStored next.history o) (sym still) (command_later s.asked s.job s.history c reply next.history s.job range carries standing.may); held = held_next s next standing stocks loads (command_more s.asked s.job s.history c reply next.history carries) })
 
 found : (s : Store) (at : Time) (expr : List ℕ) (reply : Reply) (next : Store) → IsStanding s → StoreStep s (items.Command (commands.Find at expr)) reply next → Goes s (items.Command (commands.Find at expr)) reply next
 found s at expr reply next standing ((Ok query, read, (rows, count, made, is), asks), noted) =
     let same = asks_same s (record next { asked = s.asked }) at.seconds (at.seconds + 1) (Ok query) asks in
     let stands = made_at s.history s.pages at.seconds query rows count standing.loadable standing.held at.before_now made in
-    (((same.0, (Ok query, read, (rows, count, stands.0, stands.1, is))), noted, same.3), same_next s next same.0 same.1 standing)
+    (((same.0, (Ok query, read, (rows, count, stands.0, stands.1, is))), noted, same.3), noted_may s next same standing)
 found s at expr reply next standing ((Err place, read, is, asks), noted) =
-    let same = asks_same s (record next { asked = s.asked }) at.seconds (at.seconds + 1) (Err place) asks in (((same.0, (Err place, read, is)), noted, same.3), same_next s next same.0 same.1 standing)
+    let same = asks_same s (record next { asked = s.asked }) at.seconds (at.seconds + 1) (Err place) asks in (((same.0, (Err place, read, is)), noted, same.3), noted_may s next same standing)
 
 topped : (s : Store) (count : TopCount) (at : Time) (expr : List ℕ) (reply : Reply) (next : Store) → IsStanding s → StoreStep s (items.Command (commands.Top count at expr)) reply next
     → Goes s (items.Command (commands.Top count at expr)) reply next
 topped s count at expr reply next standing (Ok query, read, (rows, number, made, is), asks) =
     let same = asks_same s next at.seconds (at.seconds + 1) (Ok query) asks in
     let stands = made_at s.history s.pages at.seconds query rows number standing.loadable standing.held at.before_now made in
-    (((same.0, (Ok query, read, (rows, number, stands.0, stands.1, is))), same.2, same.3), same_next s next same.0 same.1 standing)
+    (((same.0, (Ok query, read, (rows, number, stands.0, stands.1, is))), same.2, same.3), leaves_may s next same standing)
 topped s count at expr reply next standing (Err place, read, is, asks) =
-    let same = asks_same s next at.seconds (at.seconds + 1) (Err place) asks in (((same.0, (Err place, read, is)), same.2, same.3), same_next s next same.0 same.1 standing)
+    let same = asks_same s next at.seconds (at.seconds + 1) (Err place) asks in (((same.0, (Err place, read, is)), same.2, same.3), leaves_may s next same standing)
 
 neared : (s : Store) (tolerance : Tolerance) (at : Time) (expr : List ℕ) (reply : Reply) (next : Store) → IsStanding s → StoreStep s (items.Command (commands.Rough tolerance at expr)) reply next
     → Goes s (items.Command (commands.Rough tolerance at expr)) reply next
 neared s tolerance at expr reply next standing (Ok query, read, (rows, count, made, is), asks) =
     let same = asks_same s next 0 (2 ^ 40) (Ok query) asks in
     let stands = made_rough s.history s.pages tolerance at.seconds query rows count standing.loadable standing.held made in
-    (((same.0, (Ok query, read, (rows, count, stands.0, stands.1, is))), same.2, same.3), same_next s next same.0 same.1 standing)
+    (((same.0, (Ok query, read, (rows, count, stands.0, stands.1, is))), same.2, same.3), leaves_may s next same standing)
 neared s tolerance at expr reply next standing (Err place, read, is, asks) =
-    let same = asks_same s next 0 (2 ^ 40) (Err place) asks in (((same.0, (Err place, read, is)), same.2, same.3), same_next s next same.0 same.1 standing)
+    let same = asks_same s next 0 (2 ^ 40) (Err place) asks in (((same.0, (Err place, read, is)), same.2, same.3), leaves_may s next same standing)
 
 bested : (s : Store) (count : BestCount) (at : Time) (expr : List ℕ) (b : Bool) (reply : Reply) (next : Store) → IsStanding s → AnswersBest b s count at expr reply next → Leaves s next × Bests b s.history count at expr reply
 bested s count at expr true reply next standing (Ok query, read, (told, made), asks) = (asks_same s next at.seconds (at.seconds + 1) (Ok query) asks, (Ok query, read, made standing.held))
@@ -256,13 +277,13 @@ spanned : (s : Store) (span : Span) (expr : List ℕ) (reply : Reply) (next : St
 spanned s span expr reply next standing (Ok query, read, (rows, count, made, is), asks) =
     let same = asks_same s next span.from span.to (Ok query) asks in
     let stands = made_over s.history s.pages span.from span.to query rows count standing.loadable standing.held span.in_time made in
-    (((same.0, (Ok query, read, (rows, count, stands.0, stands.1, is))), same.2, same.3), same_next s next same.0 same.1 standing)
+    (((same.0, (Ok query, read, (rows, count, stands.0, stands.1, is))), same.2, same.3), leaves_may s next same standing)
 spanned s span expr reply next standing (Err place, read, is, asks) =
-    let same = asks_same s next span.from span.to (Err place) asks in (((same.0, (Err place, read, is)), same.2, same.3), same_next s next same.0 same.1 standing)
+    let same = asks_same s next span.from span.to (Err place) asks in (((same.0, (Err place, read, is)), same.2, same.3), leaves_may s next same standing)
 
 -- a question that changes nothing, or nothing but how much was read
 asked : (s next : Store) (T : Type 0) → Leaves s next → T → IsStanding s → (((next.history ≡ s.history) × T) × (next.asked ≡ s.asked) × (next.job ≡ s.job)) × IsStanding next
-asked s next T same is standing = (((same.0, is), same.2, same.3), same_next s next same.0 same.1 standing)
+asked s next T same is standing = (((same.0, is), same.2, same.3), leaves_may s next same standing)
 
 same_all : (s next : Store) → next ≡ s → Leaves s next
 same_all s next same = leaves_all s s next same (refl, refl, refl, refl)
@@ -271,7 +292,9 @@ reads_all : (s next : Store) → ReadsOn s next → Leaves s next
 reads_all s next reads = leaves_all s _ next reads (refl, refl, refl, refl)
 
 begun : (s : Store) (word : List ℕ) (factor : Fraction) (reply : Reply) (next : Store) → IsStanding s → StoreStep s (items.Command (commands.Begin word factor)) reply next → Goes s (items.Command (commands.Begin word factor)) reply next
-begun s word factor reply next standing (begins, same) = (begins, same_next s next (ap (λ (x : Store). x.history) same) (ap (λ (x : Store). x.pages) same) standing)
+begun s word factor reply next standing (begins, same) =
+    let fair = begins_keep IsLoadable (world_by s) word factor reply (world_by next) (record { history = standing.loadable; job = standing.may }) begins in
+    (begins, same_next s next (ap (λ (x : Store). x.history) same) (ap (λ (x : Store). x.pages) same) fair.job standing)
 
 pub step_standing : (s : Store) (item : Item) (reply : Reply) (next : Store) → IsStanding s → HasDocument item → StoreStep s item reply next → Step (world_by s) item reply (world_by next) × IsStanding next
 step_standing s (items.Command (commands.Arrive doc at text)) reply next standing range changes = changed s next (commands.Arrive doc at text) reply standing range changes.2.asked changes
@@ -295,7 +318,7 @@ step_standing s (items.Command commands.Verify) reply next standing range (reads
     let image : Bytes = record { journal = journal; pages = s.pages } in
     let verifies = stands_verified s.history image verdict (record { spelled = spelled; loadable = standing.loadable; held = standing.held }) checked in
     asked s next ((verdict : Verdict) × Verifies s.history verdict × (reply ≡ Verified verdict)) (reads_all s next reads) (verdict, verifies, is) standing
-step_standing s items.Line reply next standing range (same, is) = ((ap world_by same, is), same_next s next (ap (λ (x : Store). x.history) same) (ap (λ (x : Store). x.pages) same) standing)
+step_standing s items.Line reply next standing range (same, is) = ((ap world_by same, is), leaves_may s next (same_all s next same) standing)
 
 -- each item is answered, whatever lies in Pages
 replied_so : (Makes : Query → Reply → Type 0) → ((query : Query) (reply : Reply) → Makes query reply → Speaks reply) → (s : Store) (a b : ℕ) (text : List ℕ) (reply : Reply) (next : Store) → Answers Makes s a b text reply next → Speaks reply
@@ -349,10 +372,10 @@ works_on_by s (items.Command commands.Verify) reply next is working = ap is_some
 works_on_by s items.Line reply next is working = ap is_some (same_all s next is.0).3 ∙ working
 
 -- a stint of the work on a plan
-pub stint_standing : (s : Store) (reply : Reply) (next : Store) → IsStanding s → MayBeStored s.history s.job → StoreStint s reply next → Works (world_by s) reply (world_by next) × IsStanding next
-stint_standing s reply next standing may (works, stocks) =
-    let loads = (stint_loads (world_by s) (world_by next) reply (record { history = standing.loadable; job = may }) works).history in
-    (works, record { loadable = loads; held = held_next s next standing stocks loads (works_more (world_by s) (world_by next) reply works) })
+pub stint_standing : (s : Store) (reply : Reply) (next : Store) → IsStanding s → StoreStint s reply next → Works (world_by s) reply (world_by next) × IsStanding next
+stint_standing s reply next standing (works, stocks) =
+    let fair = stint_loads (world_by s) (world_by next) reply (record { history = standing.loadable; job = standing.may }) works in
+    (works, record { loadable = fair.history; may = fair.job; held = held_next s next standing stocks fair.history (works_more (world_by s) (world_by next) reply works) })
 
 -- and nothing is damaged of what is read for an item
 pub spoiled_never : (s : Store) (item : Item) (damage : Damage) → IsStanding s → Spoils s item damage → ⊥

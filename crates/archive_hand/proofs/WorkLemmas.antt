@@ -2,7 +2,7 @@
 use Rattle.std.proofs.Common.{All, Bool, List, None, Option, Some, [], ap, arith, false, inl, inr, length, nat_lt, refl, subst, sym, take, true, ℕ, ◌++◌, ◌+◌, ◌-◌, ◌<◌, ◌∙◌, ◌∷◌, ◌≡◌, ◌≤◌, ◌⊎◌}
 use Rattle.std.proofs.lemmas.Bool.{le-ltb, lt-ltb}
 use Rattle.std.proofs.lemmas.List.{append-nil, length_push}
-use Rattle.std.proofs.lemmas.List.Elements.{All-cons, All-head, All-nil, All-tail, All-weaker}
+use Rattle.std.proofs.lemmas.List.Elements.{All-weaker}
 use Rattle.machine_model.specs.Areas.{Bytes}
 use Rattle.machine_model.specs.Images.{MayLeave}
 use Rattle.machine_model.specs.States.{DiskState, moment}
@@ -40,7 +40,7 @@ use Rattle.archive_hand.specs.Stored.{HasSame, StandsBy, Store, StoreStint, Stoc
 use Rattle.archive_hand.specs.Storing.{HasPutDown, HasStopped}
 use Rattle.archive_hand.specs.declared.job.Job.{Job}
 use Rattle.archive_hand.proofs.AddLemmas.{bodies_more, step_stays}
-use Rattle.archive_hand.proofs.ByReadsLemmas.{all_same, keeps_leads, keeps_nowhere, no_longer, same_as}
+use Rattle.archive_hand.proofs.ByReadsLemmas.{all_same, both_same, keeps_leads, keeps_nowhere, no_longer, same_as}
 use Rattle.archive_hand.proofs.PutLemmas.{IsThere, begun, begun_keeps, put_there}
 use Rattle.archive_hand.proofs.StoreLemmas.{stands_stored}
 
@@ -120,14 +120,6 @@ stands_on a h job is more stands =
         cost = waits.cost;
       };
     }
-
--- pages that have what those had have it of each other
-both_same : (was pages image : List ℕ) (es : List Extent) → All (HasSame was pages) es → All (HasSame was image) es → All (HasSame pages image) es
-both_same was pages image [] one two = All-nil (HasSame pages image)
-both_same was pages image (e ∷ es) one two =
-    let mine = All-head (HasSame was pages) e es one in
-    let its = All-head (HasSame was image) e es two in
-    All-cons (HasSame pages image) e es (its.0, its.1 ∙ sym mine.1) (both_same was pages image es (All-tail (HasSame was pages) e es one) (All-tail (HasSame was image) e es two))
 
 -- what is stored behind it
 abbrev pub store_on : Store → Job → DiskState → Store

@@ -377,7 +377,7 @@ command_keeps P push asked job h (commands.Share factor words) reply next is ran
 command_keeps P push asked job h other reply next is range step = stays P h next is step.0
 
 -- what a command leads to is a longer history by a legal entry, or the same: so a plan that is being written could be stored behind it
-command_later : (asked : List Asking) (job : Option Job) (h : History) (c : Command) (reply : Reply) (next : History) (goal : Option Job) → HasDocument (items.Command c) → CarriesOut asked job h c reply next → MayBeStored h goal → MayBeStored next goal
+pub command_later : (asked : List Asking) (job : Option Job) (h : History) (c : Command) (reply : Reply) (next : History) (goal : Option Job) → HasDocument (items.Command c) → CarriesOut asked job h c reply next → MayBeStored h goal → MayBeStored next goal
 command_later asked job h c reply next goal range step may = command_keeps (λ g. MayBeStored g goal) (λ g e is legal. job_later g e goal legal.allowed is) asked job h c reply next may range step
 
 -- so every outcome leads from a fair state to a fair one

@@ -1,5 +1,5 @@
 -- Each item is answered: no reply to it is the one that says nothing.
-use Rattle.std.proofs.Common.{◌≡◌, ℕ, Bool, true, false, inl, inr, length, List, Option, Some, None, Result, Ok, Err, ap, is_some, subst, sym, ◌∙◌}
+use Rattle.std.proofs.Common.{◌≡◌, ◌⊎◌, refl, ℕ, Bool, true, false, inl, inr, length, List, Option, Some, None, Result, Ok, Err, ap, is_some, nat_lt, subst, sym, ◌∙◌}
 use Rattle.std.specs.List.{flat_map}
 use Rattle.base_types.specs.declared.fraction.Fraction.{Fraction}
 use Rattle.base_types.specs.declared.posting.Posting.{Posting}
@@ -32,7 +32,7 @@ use Rattle.model_archive.specs.Answers.{IsWordList}
 use Rattle.model_archive.specs.Planning.{OfTerm, last_second}
 use Rattle.model_archive.specs.Plans.{plan_of}
 use Rattle.model_archive.specs.Sharing.{IsShared}
-use Rattle.model_archive.specs.Steps.{Reply, Approximated, Refused, RefusedIn, Shared, Silent, Adds, AddsBatch, AddsPlan, Approximates, Bests, BestsBy, Begins, CarriesOut, Cause, Certifies, CertifiesLive, CertifiesPlan, ChoosesPlan, Declines, FindsBy, Idles, IsNoDisjunction, IsReplied, IsRepliedBy, NearsBy, OfIdle, OfStill, Proposes, ProposesPlan, Shares, SpansBy, Step, StoresPlan, TakesOn, TopsBy, act_of, arrival_refusal, batch_cause, deletion_refusal, full_journal, in_blocks, mark_refusal, spelled_key}
+use Rattle.model_archive.specs.Steps.{Reply, Approximated, Refused, RefusedIn, Shared, Silent, Adds, AddsBatch, AddsPlan, Approximates, Bests, BestsBy, Begins, CarriesOut, Cause, Certifies, CertifiesLive, CertifiesPlan, ChoosesPlan, Declines, FindsBy, Idles, IsNoDisjunction, IsReplied, IsRepliedBy, NearsBy, OfIdle, OfStill, Proposes, ProposesPlan, Finishes, Shares, SpansBy, Step, StoresPlan, TakesOn, TopsBy, Works, WorksAt, WorksOn, act_of, arrival_refusal, batch_cause, deletion_refusal, full_journal, in_blocks, mark_refusal, spelled_key, stint_pages}
 use Rattle.model_archive.specs.Worlds.{Job, World, at_work}
 use Rattle.model_archive.proofs.PlanningLemmas.{of_phrase}
 use Rattle.model_archive.proofs.SharingLemmas.{of_phrases}
@@ -42,6 +42,10 @@ use Rattle.model_archive.proofs.StoringLemmas.{idle_keeps, still_keeps}
 abbrev pub Speaks : Reply → Type 0
 Speaks Silent = ⊥
 Speaks other = Unit {0}
+
+pub silent_or : (reply : Reply) → (reply ≡ Silent) ⊎ Speaks reply
+silent_or Silent = inl refl
+silent_or reply = inr tt
 
 pub says : (reply other : Reply) → reply ≡ other → Speaks other → Speaks reply
 says reply other is speaks = subst Speaks (sym is) speaks
@@ -173,3 +177,19 @@ pub step_works : (w : World) (item : Item) (reply : Reply) (next : World) → St
 step_works w (items.Command (commands.Begin word factor)) reply next is working = begun_works w word factor reply next is working
 step_works w (items.Command c) reply next is working = ap is_some is.2 ∙ working
 step_works w items.Line reply next is working = ap at_work is.0 ∙ working
+
+-- and what says nothing leaves some to be done
+pub silent_works : (old new : World) → Works old Silent new → at_work new ≡ true
+silent_works old new works = go old.job works
+  where
+    last : (job : Job) (refusal : Option Refusal) → Finishes old job refusal Silent new → at_work new ≡ true
+    last job None is = absurd cc
+    last job (Some why) is = absurd cc
+
+    by : (b : Bool) (job : Job) → WorksOn b old job Silent new → at_work new ≡ true
+    by true job is = ap at_work is.0
+    by false job is = last job (full_journal old.history (entries.Planned job.plan)) is
+
+    go : (o : Option Job) → WorksAt old o Silent new → at_work new ≡ true
+    go None works = absurd works
+    go (Some job) works = by (nat_lt stint_pages job.left) job works

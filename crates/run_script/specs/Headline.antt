@@ -97,8 +97,8 @@ pub record Ran {S : Type 0} (step : S → Item → Reply → S → Type 0) (stin
   pub by_items : List (Outcome Reply S)
   pub closing : List (Outcome Reply S)
   pub outcomes_are : outcomes ≡ by_items ++ closing
-  pub run : IsRunWith step stint working state reached by_items ⊎ LacksStint step stint working state reached by_items
-  pub stints : (status ≡ Disk → ⊥) → (status ≡ Sink → ⊥) → IsRunWith step stint working state reached by_items
+  pub run : IsRunWith step stint working state reached by_items
+      ⊎ (LacksStint step stint working state reached by_items × (closing ≡ []) × ((status ≡ Disk) ⊎ (status ≡ Sink)))
   pub closes : AreStints stint (last_state state by_items) closing
   pub open : (closing ≡ []) ⊎ ((ended ≡ true) × (rest ≡ []) × (behind ≡ []))
   -- where the input was gone over, no work is left

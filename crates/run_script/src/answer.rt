@@ -140,6 +140,7 @@ pub(crate) fn work<D: Disk>(
     requires working { IsSome archive.old.job }
     ensures only { D.Disk.only disk.old disk.new }
     ensures disk_fault { IsErrOf result Halt.Disk → Rose (D.disk disk.old).faults (D.disk disk.new).faults }
+    ensures fed { IsErrOf result Halt.Memory → ⊥ }
     ensures left { OnOk result (IsLeft D.disk_tells (D.disk disk.old) (D.disk disk.new) archive.old archive.new) }
     ensures less { OnOk result (left_of (plain_job archive.new.job) < left_of (plain_job archive.old.job)) }
     // What comes of it by what reads give, whatever lies in Pages.
@@ -154,6 +155,7 @@ pub(crate) fn work<D: Disk>(
 fn write_stint(page: &mut ReplyPage, stint: Result<Stint, Failed>) -> Result<(), Halt>
     ensures writes { WritesStint stint result page.new.bytes }
     ensures fault { IsErrOf result Halt.Disk → IsErr stint }
+    ensures fed { IsErrOf result Halt.Memory → ⊥ }
     ensures made { OnOk result (IsOk stint) }
 {
     match stint {

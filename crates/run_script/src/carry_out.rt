@@ -98,6 +98,7 @@ pub(crate) fn do_stint<M: Machine>(
     ensures sink_later { (M.sink machine.old).faults ≤ (M.sink machine.new).faults }
     ensures disk_fault { IsErrOf result Stop.Disk → Rose (M.disk machine.old).faults (M.disk machine.new).faults }
     ensures sink_fault { IsErrOf result Stop.Sink → Rose (M.sink machine.old).faults (M.sink machine.new).faults }
+    ensures fed { IsErrOf result Stop.Memory → ⊥ }
     ensures left { OnOk result (IsLeft M.disk_tells (M.disk machine.old) (M.disk machine.new) archive.old archive.new) }
     ensures less { OnOk result (left_of (plain_job archive.new.job) < left_of (plain_job archive.old.job)) }
     ensures outcome { M.disk_tells → M.sink_tells → (s : Store) → AreInStepBy (M.disk machine.old) archive.old s →
