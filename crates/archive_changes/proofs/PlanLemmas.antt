@@ -1,5 +1,5 @@
 -- What becomes of a phrase that is to be planned, and that storing its plan is a step of the abstract archive.
-use Rattle.std.proofs.Common.{◌≡◌, ◌⊎◌, ℕ, ◌+◌, ◌<◌, ◌≤◌, List, [], ◌∷◌, ◌++◌, length, Option, Some, None, Result, Ok, Err, IfOk, inl, inr, refl, ap, sym, subst, arith}
+use Rattle.std.proofs.Common.{◌≡◌, ◌⊎◌, ℕ, ◌+◌, ◌<◌, ◌≤◌, List, [], ◌∷◌, ◌++◌, length, Option, Some, None, Result, Ok, Err, IfOk, inl, inr, refl, ap, sym, subst, ◌∙◌, arith}
 use Rattle.std.proofs.lemmas.List.{length_push}
 use Rattle.std.proofs.lemmas.Bool.{lt-ltb, le-ltb}
 use Rattle.machine_model.specs.States.{DiskState}
@@ -29,18 +29,20 @@ use Rattle.model_archive.specs.Worlds.{Job, World, taken_in}
 use Rattle.model_archive.proofs.HistoryLemmas.{end_of-push}
 use Rattle.model_archive.proofs.RefusalLemmas.{when_true, when_false}
 use Rattle.archive_hand.specs.Changing.{KeepsBy}
-use Rattle.archive_hand.specs.Stored.{Store}
-use Rattle.archive_hand.specs.States.{ArchiveState, AreInStepBy, with_reads}
+use Rattle.archive_hand.specs.Stored.{Store, world_by}
+use Rattle.archive_hand.specs.Jobs.{plain_job}
+use Rattle.journal_gates.proofs.InStepLemmas.{step_at}
+use Rattle.archive_hand.specs.States.{ArchiveState, AreInStepBy, CacheStands, StandsFor, with_reads}
 use Rattle.archive_plans.specs.Readying.{IsFull, plan_with, tells_of}
 use Rattle.archive_hand.specs.Storing.{IsDraft, IsStoredAs, IsStoredBy, IsTakenOn}
-use Rattle.archive_hand.specs.Takes.{Comes, TakesBy}
+use Rattle.archive_hand.specs.Takes.{Comes, Replied, TakesBy}
 use Rattle.pages_sublists.specs.Preparing.{extents}
 use Rattle.archive_hand.specs.declared.job.Begun.{Begun}
 use Rattle.archive_changes.specs.Endings.{planned}
 use Rattle.archive_hand.specs.declared.error.ChangeError.{ChangeError}
 use Rattle.archive_hand.specs.declared.error.ChangeError.TheVariants as changes
 use Rattle.archive_plans.specs.declared.readying.Draft.{Draft}
-use Rattle.archive_hand.proofs.ByReadsLemmas.{stocks_same}
+use Rattle.archive_hand.proofs.ByReadsLemmas.{keeps_leads, keeps_nowhere, stocks_same}
 use Rattle.archive_changes.proofs.TakeLemmas.{unmade_by}
 use Rattle.archive_hand.proofs.PhraseLemmas.{goes_on, map_idle, map_phrase, map_still}
 
@@ -206,3 +208,36 @@ plan_by s phrase kind factor draft r old new a b in_step term known kind_is same
           | inr stored ↦ inr (steps.Planned (tells_of draft (length s.history + 1)), stored.0, comes stored.0 (tells_of draft (length s.history + 1)) refl stored.1)
         ])
         (λ is. memory (ap Err is))
+
+-- ---- begun by what reads give
+
+-- the archive but for its free pages, its room and the plan that is being written is as it was
+abbrev pub IsSameBut : ArchiveState → ArchiveState → Type 0
+IsSameBut a b = b ≡ record a { shelf = record (a.shelf) { pages = b.shelf.pages; room = b.shelf.room }; job = b.job }
+
+-- what is stored then
+abbrev pub store_begun : Store → ArchiveState → Store
+store_begun s b = record s { job = plain_job b.job }
+
+in_step_begun : (d : DiskState) (a b : ArchiveState) (s : Store) → AreInStepBy d a s → IsSameBut a b → StandsFor b s.history → CacheStands d b → AreInStepBy d b (store_begun s b)
+in_step_begun d a b s was same stands cached = record {
+  stands = stands;
+  asked_are = ap (λ (x : ArchiveState). x.asked) same ∙ was.asked_are;
+  journal = step_at (stands.end_is ∙ sym was.stands.end_is) was.journal;
+  pages_are = was.pages_are;
+  kept_are = ap (λ (x : ArchiveState). x.shelf.cache) same ∙ was.kept_are;
+  read_is = was.read_is;
+  job_is = refl;
+  live = was.live;
+  same = was.same;
+  cached = cached;
+}
+
+-- a call that asked no disk, and replied this
+pub begun_by : (s : Store) (phrase : List ℕ) (factor : Fraction) (reply : Reply) (d : DiskState) (a b : ArchiveState) → AreInStepBy d a s → IsSameBut a b → StandsFor b s.history → CacheStands d b → Begins (world_by s) phrase factor reply (world_by (store_begun s b))
+    → TakesBy s (items.Command (commands.Begin phrase factor)) (Replied reply) d d b
+begun_by s phrase factor reply d a b in_step same stands cached begins = (
+  store_begun s b,
+  record { step = (begins, refl); leads = keeps_leads s (store_begun s b) d d (keeps_nowhere d a s in_step); still = λ none. (refl, refl) },
+  in_step_begun d a b s in_step same stands cached,
+)

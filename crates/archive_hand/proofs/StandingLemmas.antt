@@ -32,7 +32,7 @@ use Rattle.model_archive.specs.declared.refusal.Refusal.{Refusal}
 use Rattle.model_archive.specs.declared.verdict.Verdict.{Verdict}
 use Rattle.model_archive.specs.Histories.{History, text_at}
 use Rattle.model_archive.specs.Holding.{HoldsPlan, HoldsPlans}
-use Rattle.model_archive.specs.Legal.{IsLoadable, MayBeStored}
+use Rattle.model_archive.specs.Legal.{IsFair, IsLoadable, MayBeStored}
 use Rattle.model_archive.specs.Planning.{OfBoundaries, OfList, OfPhrase, OfWidth, last_second}
 use Rattle.model_archive.specs.Plans.{live_extents}
 use Rattle.model_archive.specs.Stands.{EachStands, Stands, bodies_of}
@@ -89,9 +89,9 @@ in_step_standing d a w in_step = record {
 pub in_step_by : (d : DiskState) (a : ArchiveState) (s : Store) → AreInStepBy d a s → IsStanding s → AreInStep d a (world_by s)
 in_step_by d a s in_step standing = record { store = s; world_is = refl; by_reads = in_step; held = standing.held }
 
--- a load accepts the history
-pub in_step_loads : (d : DiskState) (a : ArchiveState) (w : World) → AreInStep d a w → IsLoadable w.history
-in_step_loads d a w in_step = subst (λ (x : World). IsLoadable x.history) in_step.world_is in_step.by_reads.stands.loadable
+-- a load accepts the history, and what is being written could be stored behind it
+pub in_step_fair : (d : DiskState) (a : ArchiveState) (w : World) → AreInStep d a w → IsFair IsLoadable w
+in_step_fair d a w in_step = subst (IsFair IsLoadable) in_step.world_is (record { history = in_step.by_reads.stands.loadable; job = may_by d a in_step.store in_step.by_reads })
 
 -- each image stands for the history
 pub in_step_stands : (d : DiskState) (a : ArchiveState) (w : World) → AreInStep d a w → EachStands d w.history

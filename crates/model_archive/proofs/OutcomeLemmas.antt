@@ -68,7 +68,7 @@ use Rattle.base_commands.specs.declared.count.TopCount.{TopCount}
 use Rattle.base_commands.specs.declared.text.Text.TheVariants as texts
 use Rattle.model_archive.specs.declared.summary.Summary.{Summary}
 use Rattle.model_archive.specs.Steps.{Reply, Accepted, Refused, Found, FoundBest, Spanned, Version, Proposed, Planned, Verified, Adds, Declines, IsRepliedBy, IsReplied, Finds, FindsBy, Tops, TopsBy, Bests, BestsBy, IsNoDisjunction, Neared, NearsBy, Spans, SpansBy, Proposes, ProposesPlan, Plans, StoresPlan, spelled_key, CarriesOut, Step, too_long, bad_text, full_journal, arrival_refusal, deletion_refusal, mark_refusal, Silent, Idles, ChoosesPlan, TakesOn, OfStill, OfIdle, Begins, Works, WorksOn, WorksAt, Finishes, left_of, stint_pages}
-use Rattle.model_archive.specs.Runs.{Outcome}
+use Rattle.model_archive.specs.Runs.{Outcome, IsRun}
 use Rattle.model_archive.specs.Sharing.{Notes}
 use Rattle.model_archive.specs.Worlds.{World, Job, at_work}
 use Rattle.model_archive.proofs.HistoryLemmas.{legal-push, loadable-push, entry_loads}
@@ -398,6 +398,15 @@ loads_more h e is legal = loadable-push h e is (entry_loads h e legal)
 
 pub step_loads : (w : World) (item : Item) (reply : Reply) (next : World) → IsFair IsLoadable w → HasDocument item → Step w item reply next → IsFair IsLoadable next
 step_loads = step_keeps IsLoadable loads_more
+
+-- a run goes on over any items whose documents are in range
+pub run_on : (w : World) (events : List Item) → IsFair IsLoadable w → All HasDocument events → (outcomes : List (Outcome Reply World)) × IsRun Step w events outcomes
+run_on w [] fair range = ([], tt)
+run_on w (item ∷ events) fair range =
+    let outcome = each_outcome w item fair.history in
+    let next = step_loads w item outcome.0.reply outcome.0.next fair (All-head HasDocument item events range) outcome.1 in
+    let further = run_on outcome.0.next events next (All-tail HasDocument item events range) in
+    (outcome.0 ∷ further.0, (outcome.1, further.1))
 
 -- an outcome is the only one
 abbrev IsOne : Reply → Reply → History → History → Type 0
