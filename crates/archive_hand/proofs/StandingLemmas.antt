@@ -347,7 +347,7 @@ store_speaks s (items.Command (commands.Show doc at)) reply next is = says reply
 store_speaks s (items.Command (commands.Propose word fraction)) reply next is = proposes_speak s.history word fraction reply is.1
 store_speaks s (items.Command (commands.Certificate word)) reply next is = certifies_speak s.history word reply is.1
 store_speaks s (items.Command (commands.Share factor words)) reply next is = shares_speak s.asked s.history words factor.fraction reply is.1
-store_speaks s (items.Command commands.Verify) reply next is = says reply _ is.1.3 tt
+store_speaks s (items.Command commands.Verify) reply next is = says reply _ is.1.4 tt
 store_speaks s items.Line reply next is = says reply _ is.1 tt
 
 -- and no item ends the work on a plan

@@ -238,7 +238,7 @@ leads_idle s t old new leads = record {
   goes_on = leads.goes_on;
   images = λ image beside left.
       let was = leads.images image beside left in
-      (elim was.0 [ | inl before ↦ inl before | inr after ↦ inr (record { spelled = after.spelled; same = after.same }) ], was.1);
+      (elim was.0 [ inl before ↦ inl before | inr after ↦ inr (record { spelled = after.spelled; same = after.same }) ], was.1);
 }
 
 stocks_idle : (s t : Store) → Stocks s t → Stocks s (record t { job = None })

@@ -121,13 +121,7 @@ impl Archive {
             self.live = true;
             Ok(Stint::Dropped(full_journal()))
         } else {
-            match finish(
-                disk,
-                &mut self.journal,
-                &mut self.shelf,
-                job,
-                self.entries,
-            ) {
+            match finish(disk, &mut self.journal, &mut self.shelf, job, self.entries) {
                 Ok(summary) => {
                     self.entries += 1;
                     self.live = true;

@@ -32,7 +32,7 @@ use Rattle.model_archive.specs.Answers.{IsWordList}
 use Rattle.model_archive.specs.Planning.{OfTerm, last_second}
 use Rattle.model_archive.specs.Plans.{plan_of}
 use Rattle.model_archive.specs.Sharing.{IsShared}
-use Rattle.model_archive.specs.Steps.{Reply, Approximated, Refused, RefusedIn, Shared, Silent, Adds, AddsBatch, AddsPlan, Approximates, Bests, BestsBy, Begins, CarriesOut, Cause, Certifies, CertifiesLive, CertifiesPlan, ChoosesPlan, Declines, FindsBy, Idles, IsNoDisjunction, IsReplied, IsRepliedBy, NearsBy, OfIdle, OfStill, Proposes, ProposesPlan, Finishes, Shares, SpansBy, Step, StoresPlan, TakesOn, TopsBy, Works, WorksAt, WorksOn, act_of, arrival_refusal, batch_cause, deletion_refusal, full_journal, in_blocks, mark_refusal, spelled_key, stint_pages}
+use Rattle.model_archive.specs.Steps.{Reply, Approximated, Refused, RefusedIn, Shared, Silent, Adds, AddsBatch, AddsPlan, Approximates, Bests, BestsBy, Begins, CarriesOut, Cause, Certifies, CertifiesLive, CertifiesPlan, ChoosesPlan, Declines, FindsBy, Idles, IsNoDisjunction, IsReplied, IsRepliedBy, NearsBy, OfIdle, OfStill, Proposes, ProposesPlan, Finishes, Shares, SpansBy, Step, StoresPlan, TakesOn, TopsBy, Works, WorksAt, WorksOn, act_of, arrival_refusal, batch_cause, deletion_refusal, full_journal, in_blocks, mark_refusal, refused_for, spelled_key, stint_pages}
 use Rattle.model_archive.specs.Worlds.{Job, World, at_work}
 use Rattle.model_archive.proofs.PlanningLemmas.{of_phrase}
 use Rattle.model_archive.proofs.SharingLemmas.{of_phrases}
@@ -56,8 +56,11 @@ adds h e (Some why) reply next is = says reply _ is.1 tt
 
 adds_batch : (h : History) (e : Entry) (cause : Option Cause) (reply : Reply) (next : History) → AddsBatch h e cause reply next → Speaks reply
 adds_batch h e None reply next is = says reply _ is.1 tt
-adds_batch h e (Some (record { why = why; index = None })) reply next is = says reply _ is.1 tt
-adds_batch h e (Some (record { why = why; index = Some index })) reply next is = says reply _ is.1 tt
+adds_batch h e (Some cause) reply next is = go cause.index is.1
+  where
+    go : (index : Option ℕ) → reply ≡ refused_for cause.why index → Speaks reply
+    go None is = says reply _ is tt
+    go (Some index) is = says reply _ is tt
 
 replied : (Finds : Query → Reply → Type 0) → ((query : Query) (reply : Reply) → Finds query reply → Speaks reply) → (text : List ℕ) (reply : Reply) → IsReplied Finds text reply → Speaks reply
 replied Finds each text reply (Ok query, read, finds) = each query reply finds

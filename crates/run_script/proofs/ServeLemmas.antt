@@ -224,7 +224,7 @@ ended_by store old now archive held held_now before status source lefts serving 
     let replied = all_pulls store old now archive held before lefts serving awaited in
     record {
       closing = λ is. closing_by store old now archive held pulls source (pulled_more store old now archive held before pulls serving replied).0 (subst (λ (st : Status). EndsBehind st old.source source serving.pulling.items) is e);
-      serves = λ open. record {
+      serves = λ going. record {
         ran = record {
           pulled = e.ends.pulled;
           pulled_are = e.ends.pulled_are;
@@ -241,8 +241,8 @@ ended_by store old now archive held held_now before status source lefts serving 
           outcomes_are = sym (append-nil outcomes);
           run = inl serving.run;
           closes = tt;
-          open = inl refl;
-          closed = λ done. absurd (open done);
+          at_end = inl refl;
+          closed = λ done. absurd (going done);
           shown = shown_by reply_text outcomes;
           shown_is = serving.shown;
           front = ([], sym (append-nil (shown_by reply_text outcomes)));
@@ -399,7 +399,7 @@ stopped store old now sink disk archive archive_new held held_now before item st
             outcomes_are = sym (append-nil all);
             run = elim r.run [ inl whole ↦ inl whole | inr lacks ↦ inr (lacks.0, refl, lacks.1) ];
             closes = tt;
-            open = inl refl;
+            at_end = inl refl;
             closed = λ done. absurd (not_early st early (rw done tt));
             shown = earlier ++ told;
             shown_is = out.shown_is ∙ ap (λ (l : List ℕ). l ++ told) serving.shown ∙ append_assoc old.sink.shown earlier told;
@@ -492,7 +492,7 @@ closing_done store old now archive pulls c idle =
         outcomes_are = refl;
         run = inl c.run;
         closes = c.closes;
-        open = inr (refl, refl, refl);
+        at_end = inr (refl, refl, refl);
         closed = λ done. idle;
         shown = shown_by reply_text outcomes;
         shown_is = c.shown;
@@ -555,8 +555,8 @@ closing_stopped store old now new archive archive_new pulls status stop c same i
             closing = c.closing ++ further;
             outcomes_are = joined;
             run = inl c.run;
-                closes = stints;
-            open = inr (refl, refl, refl);
+            closes = stints;
+            at_end = inr (refl, refl, refl);
             closed = λ done. absurd (not_early st early (rw done tt));
             shown = earlier ++ part;
             shown_is = shown ∙ ap (λ (l : List ℕ). l ++ part) c.shown ∙ append_assoc old.sink.shown earlier part;
@@ -695,7 +695,7 @@ not_begun step stint working stands state status old new early alone keeps = rec
     outcomes_are = refl;
     run = inl refl;
     closes = tt;
-    open = inl refl;
+    at_end = inl refl;
     closed = λ done. absurd (not_early status early (rw done tt));
     shown = [];
     shown_is = ap (λ (s : SinkState). s.shown) alone.1 ∙ sym (append-nil old.sink.shown);

@@ -177,7 +177,7 @@ record IsRunOn (s : Store) (status : Status) (ended : Bool) (rest : List ℕ) (r
   are : map bare outcomes ++ further ≡ by_items ++ closing
   run : IsRunWith Step Works at_work (world_by s) (reached ++ behind) by_items
   closes : AreStints Works (last_state (world_by s) by_items) closing
-  open : (closing ≡ []) ⊎ ((ended ≡ true) × (rest ≡ []) × (◌≡◌ {A = List Item} [] []))
+  at_end : (closing ≡ []) ⊎ ((ended ≡ true) × (rest ≡ []) × (◌≡◌ {A = List Item} [] []))
   each : EachStanding s outcomes
   -- where nothing was left
   none : CarriesOutAll status → further ≡ []
@@ -216,7 +216,7 @@ runs_on s status input input_now output output_now pulls ran standing range =
           are = append-nil (map bare (ran.by_items ++ ran.closing)) ∙ map-append bare ran.by_items ran.closing;
           run = subst (λ (l : List Item). IsRunWith Step Works at_work w l (map bare ran.by_items)) (sym (ap (λ (l : List Item). ran.reached ++ l) is ∙ append-nil ran.reached)) one.0;
           closes = subst (λ (x : World). AreStints Works x (map bare ran.closing)) (sym last_is) two.0;
-          open = elim ran.open [ inl none ↦ inl (ap (map bare) none) | inr at ↦ inr (at.0, at.1, refl) ];
+          at_end = elim ran.at_end [ inl none ↦ inl (ap (map bare) none) | inr at ↦ inr (at.0, at.1, refl) ];
           each = each_joins s ran.by_items ran.closing one.1 two.1;
           none = λ done. refl;
           short = λ starved. refl;
@@ -225,7 +225,7 @@ runs_on s status input input_now output output_now pulls ran standing range =
     whole fine more run (b ∷ bs) is =
         let one = run_bare s ran.reached ran.by_items standing fine run in
         let last_is = last_bare s ran.by_items in
-        let closed : ran.closing ≡ [] = elim ran.open [ inl none ↦ none | inr at ↦ (let other : b ∷ bs ≡ [] = sym is ∙ at.2 in absurd cc) ] in
+        let closed : ran.closing ≡ [] = elim ran.at_end [ inl none ↦ none | inr at ↦ (let other : b ∷ bs ≡ [] = sym is ∙ at.2 in absurd cc) ] in
         let on = on_items more (last_state w (map bare ran.by_items)) (subst (IsFair IsLoadable) (sym last_is) (fair_standing (last_state s ran.by_items) (last_standing s ran.by_items one.1))) in
         let alone : ran.by_items ++ ran.closing ≡ ran.by_items = ap (λ (l : List (Outcome Reply Store)). ran.by_items ++ l) closed ∙ append-nil ran.by_items in
         subst (IsRunOn s status ran.ended ran.rest ran.reached ran.behind) (sym alone) (record {
@@ -235,7 +235,7 @@ runs_on s status input input_now output output_now pulls ran standing range =
           are = sym (append-nil (map bare ran.by_items ++ on.0));
           run = works_join Step Works at_work w ran.reached ran.behind (map bare ran.by_items) on.0 one.0 on.1;
           closes = tt;
-          open = inl refl;
+          at_end = inl refl;
           each = one.1;
           none = λ done. (let other : b ∷ bs ≡ [] = sym is ∙ ran.all done in absurd cc);
           short = λ starved. none_short (last_state w (map bare ran.by_items)) ran.behind on.0 on.1;
@@ -264,7 +264,7 @@ runs_on s status input input_now output output_now pulls ran standing range =
           run = subst (IsRunWith Step Works at_work w (ran.reached ++ ran.behind)) joined
               (works_join Step Works at_work w ran.reached ran.behind (so_far ++ o ∷ []) on.0 first (subst (λ (x : World). IsRunWith Step Works at_work x ran.behind on.0) (sym then) on.1));
           closes = tt;
-          open = inl refl;
+          at_end = inl refl;
           each = each;
           none = λ done. absurd (no_fault status fault done);
           short = λ starved. absurd (elim fault [ inl disk ↦ (let other : Disk ≡ Memory = sym disk ∙ starved in cc) | inr sink ↦ (let other : Sink ≡ Memory = sym sink ∙ starved in cc) ]);
@@ -360,7 +360,7 @@ standing_run h start status old mid new pulls standing beside keeps serves =
           outcomes_are = on.are;
           run = inl on.run;
           closes = on.closes;
-          open = on.open;
+          at_end = on.at_end;
           closed = λ done. ap (λ (os : List (Outcome Reply World)). at_work (last_state w os)) (complete (rw done tt)) ∙ ap at_work last ∙ ran.closed done;
           shown = ran.shown;
           shown_is = ran.shown_is;

@@ -100,7 +100,7 @@ pub record Ran {S : Type 0} (step : S → Item → Reply → S → Type 0) (stin
   pub run : IsRunWith step stint working state reached by_items
       ⊎ (LacksStint step stint working state reached by_items × (closing ≡ []) × ((status ≡ Disk) ⊎ (status ≡ Sink)))
   pub closes : AreStints stint (last_state state by_items) closing
-  pub open : (closing ≡ []) ⊎ ((ended ≡ true) × (rest ≡ []) × (behind ≡ []))
+  pub at_end : (closing ≡ []) ⊎ ((ended ≡ true) × (rest ≡ []) × (behind ≡ []))
   -- where the input was gone over, no work is left
   pub closed : status ≡ Done → working (last_state state outcomes) ≡ false
   -- what was shown is a front of the joined texts of its replies

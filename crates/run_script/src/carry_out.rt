@@ -111,7 +111,8 @@ pub(crate) fn do_stint<M: Machine>(
         Ok(()) => {}
         Err(halt) => return Err(Stop::from(halt)),
     }
-    match show(machine, page.as_bytes()) {
+    let said = page.as_bytes();
+    match show(machine, said) {
         Ok(()) => Ok(()),
         Err(_) => Err(Stop::Sink),
     }

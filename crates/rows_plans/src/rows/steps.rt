@@ -66,12 +66,7 @@ fn a_stop_leaves_the_old_plan_or_the_new_one(rt: HostRuntime) -> Result<(), RowE
 }
 
 /// Each image that a stop leaves has at least and at most so many entries.
-fn expect_each(
-    alloc: Global,
-    machine: &MemMachine,
-    least: u64,
-    most: u64,
-) -> Result<(), RowError> {
+fn expect_each(alloc: Global, machine: &MemMachine, least: u64, most: u64) -> Result<(), RowError> {
     for moment in 0..machine.moments() {
         expect_entries(alloc, machine, moment, least, most)?;
     }
