@@ -442,6 +442,9 @@ stopped store old now sink disk archive archive_new held held_now before item st
         undone_stop stops.Disk is = absurd is
         undone_stop stops.Sink is = absurd is
 
+pub gone_over_early : (store : Store) (old new : MachineState) (archive : ArchiveState) (pulls : List Pull) (status : Status) → EndsEarly status → Serves store status old new pulls → HasGoneOver store status old new archive pulls
+gone_over_early store old new archive pulls status early serves = record { closing = λ done. absurd (not_early status early (rw done tt)); serves = λ going. serves }
+
 -- ---- behind the last item
 
 -- a stint more
