@@ -27,6 +27,10 @@ class Query:
     def words(self) -> frozenset[str]:
         return frozenset(self.weights)
 
+    @property
+    def positive(self) -> frozenset[str]:
+        return frozenset(word for word, weight in self.weights.items() if weight)
+
     def score(self, count: Callable[[str], int]) -> int:
         return sum(weight * count(word) for word, weight in self.weights.items())
 
