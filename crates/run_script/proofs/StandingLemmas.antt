@@ -1,5 +1,5 @@
 -- On a disk that stands for a history, a run by what reads give is the abstract archive's, which goes on over the items that weren't reached.
-use Rattle.std.proofs.Common.{◌≡◌, ◌⊎◌, ℕ, ◌<◌, ◌≤◌, List, [], ◌∷◌, ◌++◌, length, map, All, inl, inr, refl, ap, sym, subst, ◌∙◌, arith, append_assoc}
+use Rattle.std.proofs.Common.{◌≡◌, ◌⊎◌, ℕ, ◌<◌, ◌≤◌, Bool, true, false, List, [], ◌∷◌, ◌++◌, length, map, All, inl, inr, refl, ap, sym, subst, ◌∙◌, arith, append_assoc}
 use Rattle.std.proofs.lemmas.List.{append-nil, length-append, map-append}
 use Rattle.std.proofs.lemmas.List.Elements.{All-cons, All-head, All-nil, All-tail, All-weaker}
 use Rattle.machine_model.specs.Areas.{Bytes}
@@ -12,23 +12,25 @@ use Rattle.base_commands.specs.declared.command.Item.{Item}
 use Rattle.script_items.proofs.Ranges.{Items-documents}
 use Rattle.script_items.specs.Items.{Splits}
 use Rattle.model_archive.specs.Histories.{History}
-use Rattle.model_archive.specs.Legal.{IsLoadable}
+use Rattle.model_archive.specs.Legal.{IsFair, IsLoadable}
 use Rattle.model_archive.specs.Replies.{reply_text}
-use Rattle.model_archive.specs.Runs.{Outcome, IsRun, IsAcknowledged, shown_by, state_after}
-use Rattle.model_archive.specs.Standing.{last_state, Carried, StandsAlong}
+use Rattle.model_archive.specs.Runs.{Outcome, AfterStint, AreStints, IsAcknowledged, IsRunWith, shown_by, state_after}
+use Rattle.model_archive.specs.Standing.{last_state, AreQuiet, Carried, IsQuiet, LacksStint, StandsAlong}
 use Rattle.model_archive.specs.Stands.{EachStands, StandsIn}
-use Rattle.model_archive.specs.Steps.{Reply, Step}
-use Rattle.model_archive.specs.Worlds.{World, world_of}
-use Rattle.model_archive.proofs.OutcomeLemmas.{run_on}
-use Rattle.model_archive.proofs.RunLemmas.{carried_joins, carried_on, reopens, runs_join, shown_by_joins, state_after_all, state_after_front}
+use Rattle.model_archive.specs.Steps.{Reply, Step, Works}
+use Rattle.model_archive.specs.Worlds.{World, at_work, world_of}
+use Rattle.model_archive.proofs.OutcomeLemmas.{each_outcome, each_stint, silent_keeps, step_loads}
+use Rattle.model_archive.proofs.RunLemmas.{carried_joins, carried_on, last_state_joins, quiet_joins, reopens, shown_by_joins, state_after_all, state_after_front, stints_quiet, works_join, works_on, works_quiet}
+use Rattle.model_archive.proofs.SpeakLemmas.{silent_or, silent_works, step_works}
 use Rattle.archive_hand.specs.Changing.{KeepsHistory}
-use Rattle.archive_hand.specs.Stored.{Store, StandsBy, StoreStep, world_by}
-use Rattle.archive_hand.proofs.StandingLemmas.{IsStanding, spoiled_never, stands_standing, step_standing}
-use Rattle.run_script.specs.Headline.{CarriesOutAll, ComesAfterReplies, EachOf, StandingRun, store_of}
-use Rattle.run_script.specs.Serving.{IsShort, Serves}
+use Rattle.archive_hand.specs.Stored.{Store, StandsBy, StoreStep, StoreStint, is_at_work, world_by}
+use Rattle.archive_hand.proofs.StandingLemmas.{IsStanding, spoiled_never, stands_standing, step_standing, stint_standing}
+use Rattle.run_script.specs.Headline.{CarriesOutAll, ComesAfterReplies, EachOf, Ran, StandingRun, store_of}
+use Rattle.run_script.specs.Serving.{ComesAfter, IsStoreRun, Serves}
+use Rattle.run_script.specs.Outcomes.{IsShort}
 use Rattle.run_script.specs.declared.status.Status.{Status}
-use Rattle.run_script.specs.declared.status.Status.TheVariants.{Disk}
-use Rattle.run_script.proofs.OutcomeLemmas.{some_bytes}
+use Rattle.run_script.specs.declared.status.Status.TheVariants.{Disk, Memory, Sink}
+use Rattle.run_script.proofs.OutcomeLemmas.{machine_bytes, speaks_bytes}
 use Rattle.run_script.proofs.ServeLemmas.{acknowledged, all_after_replies}
 
 -- ---- outcomes by the history and what was asked alone
