@@ -66,7 +66,8 @@ impl Archive {
             → IsFull draft (taken_in (plain_job self.old.job) h) self.old.end why × StandsFor self.new h }
         ensures stores { (h : History) → StandsFor self.old h
             → IfOk result (λ r. (plan : PlanEntry)
-            × (IsStoredAs (plain_job self.old.job) h draft plan × (r ≡ tells_of draft (length h + 1)) × StandsFor self.new (h ++ entries.Planned plan ∷ []))) }
+            × (IsStoredAs (plain_job self.old.job) h draft plan × (r ≡ tells_of draft (length h + 1))
+            × StandsFor self.new (h ++ entries.Planned plan ∷ []))) }
         // By what reads give, whatever lies in Pages: at Ok the draft's plan comes behind the history; where the disk failed, all is as it was, or it does.
         ensures puts { D.disk_tells → (s : Store) → AreInStepBy (D.disk disk.old) self.old s →
             IfOk result (λ r. (next : Store)

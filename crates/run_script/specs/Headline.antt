@@ -61,8 +61,8 @@ pub record Ends (status : Status) (old new : SourceState) : Type 0 where
 
 -- A pull comes after the replies: no whole item waited for its own. What had been pulled by then is some of the items and a rest that begins with no
 -- whole one; the replies to all of these had been shown, and what was told of the stints behind them.
-pub record ComesAfterReplies {S : Type 0} (step : S → Item → Reply → S → Type 0) (stint : S → Reply → S → Type 0) (working : S → Bool) (state : S)
-    (input : SourceState) (output : SinkState) (items : List Item) (outcomes : List (Outcome Reply S)) (pull : Pull) : Type 0 where
+pub record ComesAfterReplies {S : Type 0} (step : S → Item → Reply → S → Type 0) (stint : S → Reply → S → Type 0) (working : S → Bool)
+    (state : S) (input : SourceState) (output : SinkState) (items : List Item) (outcomes : List (Outcome Reply S)) (pull : Pull) : Type 0 where
   pub pulled : List ℕ
   pub pulled_are : input.left ≡ pulled ++ pull.left
   pub before : List Item
@@ -78,8 +78,8 @@ pub record ComesAfterReplies {S : Type 0} (step : S → Item → Reply → S →
 
 -- One run of a machine from this state over the items of the bytes pulled, as far as they were reached, with a stint behind each that came while work was
 -- under way, and what was shown of it. At the end of the input the work is brought to its end.
-pub record Ran {S : Type 0} (step : S → Item → Reply → S → Type 0) (stint : S → Reply → S → Type 0) (working : S → Bool) (state : S) (status : Status)
-    (input input_now : SourceState) (output output_now : SinkState) (pulls : List Pull) : Type 0 where
+pub record Ran {S : Type 0} (step : S → Item → Reply → S → Type 0) (stint : S → Reply → S → Type 0) (working : S → Bool) (state : S)
+    (status : Status) (input input_now : SourceState) (output output_now : SinkState) (pulls : List Pull) : Type 0 where
   -- the bytes pulled, and whether the end of the input was told
   pub pulled : List ℕ
   pub pulled_are : input.left ≡ pulled ++ input_now.left

@@ -96,8 +96,8 @@ abbrev pub IsUndone : Store → List ℕ → List ℕ → DiskState → DiskStat
 IsUndone store before after old new = KeepsBy store old new × (after ≡ before)
 
 -- A step that was made and its reply shown, or during which the run was stopped.
-abbrev pub CarriesOut : Store → (Reply → Store → Type 0) → (Damage → Type 0) → Result (Unit {0}) Stop → List ℕ → List ℕ → DiskState → DiskState
-    → ArchiveState → Type 0
+abbrev pub CarriesOut : Store → (Reply → Store → Type 0) → (Damage → Type 0) → Result (Unit {0}) Stop → List ℕ → List ℕ → DiskState
+    → DiskState → ArchiveState → Type 0
 CarriesOut store Steps Harm (Ok done) before after old new archive_now =
     (shown : List ℕ) × (is : IsShown store Steps shown before after old new) × (shown ≡ reply_text is.outcome.reply)
     × AreInStepBy new archive_now is.outcome.next

@@ -115,7 +115,8 @@ pub record Serves (store : Store) (status : Status) (old new : MachineState) (pu
   pub read : CarriesOutAll status → new.disk.bytes_read.pages ≡ (last_state store ran.outcomes).read
 
 -- Going over the items has ended with this status: at the end of the input stints may be left, and otherwise the run has ended.
-pub record HasGoneOver (store : Store) (status : Status) (old new : MachineState) (archive : ArchiveState) (pulls : List Pull) : Type 0 where
+pub record HasGoneOver (store : Store) (status : Status) (old new : MachineState) (archive : ArchiveState) (pulls : List Pull)
+    : Type 0 where
   pub closing : status ≡ Done → Closing store old new archive pulls
   pub serves : (status ≡ Done → ⊥) → Serves store status old new pulls
 
