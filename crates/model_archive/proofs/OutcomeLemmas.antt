@@ -559,7 +559,7 @@ one_command asked job h (commands.Certificate word) reply other next then free a
 one_command asked job h commands.Verify reply other next then free a b =
     one_stays h reply other next then a.0 b.0 (a.1.2 ∙ ap Verified (one_verdict h a.1.0 b.1.0 a.1.1 b.1.1) ∙ sym b.1.2)
 one_command asked job h (commands.Share factor words) reply other next then free a b = absurd (free tt)
-one_command asked job h other reply other next then free a b = one_declines h refusals.Line reply other next then a b
+one_command asked job h (commands.Begin word factor) reply other next then free a b = one_declines h refusals.Line reply other next then a b
 
 pub one_outcome_only : (w : World) (item : Item) (reply other : Reply) (next then : World) → (IsChoice item → ⊥) → Step w item reply next → Step w item other then → (reply ≡ other) × (next ≡ then)
 one_outcome_only w (items.Command (commands.Begin word fraction)) reply other next then free a b = absurd (free tt)
