@@ -84,27 +84,27 @@ fn what_is_begun_beside_a_plan_is_refused(rt: HostRuntime) -> Result<(), RowErro
     let rows = [
         Row {
             script: b"begin v guarantee 1/1\nbegin v guarantee 2/1\n",
-            replies: b"begun 3 3\nno 12 Busy\ndone 7 segments 3 space 4 full 2 horizon 60\n",
+            replies: b"begun 4 3\nno 12 Busy\ndone 7 segments 4 space 4 full 2 horizon 60\n",
         },
         Row {
             script: b"begin v guarantee 1/1\nbegin w guarantee 1/1\n",
-            replies: b"begun 3 3\nno 15 OneJob\ndone 7 segments 3 space 4 full 2 horizon 60\n",
+            replies: b"begun 4 3\nno 15 OneJob\ndone 7 segments 4 space 4 full 2 horizon 60\n",
         },
         Row {
             script: b"begin v guarantee 1/1\nbegin x guarantee 1/1\n",
-            replies: b"begun 3 3\nno 13 UnknownWord\ndone 7 segments 3 space 4 full 2 horizon 60\n",
+            replies: b"begun 4 3\nno 13 UnknownWord\ndone 7 segments 4 space 4 full 2 horizon 60\n",
         },
         Row {
             script: b"begin v guarantee 1/1\nplan w guarantee 1/1\n",
-            replies: b"begun 3 3\nplan 7 segments 1 space 1 full 1 horizon 60\ndone 8 segments 3 space 4 full 2 horizon 60\n",
+            replies: b"begun 4 3\nplan 7 segments 1 space 1 full 1 horizon 60\ndone 8 segments 4 space 4 full 2 horizon 60\n",
         },
         Row {
             script: b"begin v guarantee 1/1\nbegin v\n",
-            replies: b"begun 3 3\nno 1 Line\ndone 7 segments 3 space 4 full 2 horizon 60\n",
+            replies: b"begun 4 3\nno 1 Line\ndone 7 segments 4 space 4 full 2 horizon 60\n",
         },
         Row {
             script: b"begin v guarantee 1/1\n# skipped\n\narrive 1 70 1\nv\nfind 15 v\n",
-            replies: b"begun 3 3\nok 7\ndone 8 segments 3 space 4 full 2 horizon 60\nhit 1 1\nend 1 read 1\n",
+            replies: b"begun 4 3\nok 7\ndone 8 segments 4 space 4 full 2 horizon 60\nhit 1 1\nend 1 read 1\n",
         },
     ];
     expect_behind(rt.alloc(), &[FOUR_CHANGES, ANOTHER_WORD], &rows)
