@@ -1,17 +1,15 @@
 -- What is exported can be read, and leads a follower to its leader.
-use Rattle.std.proofs.Common.{◌≡◌, ◌⊎◌, ℕ, zero, suc, ◌+◌, ◌-◌, ◌<◌, ◌≤◌, ◌^◌, List, [], ◌∷◌, ◌++◌, length, map, take, drop, All, Some, inl, inr, refl, ap, sym, subst, ◌∙◌, arith, append_assoc, length-append}
+use Rattle.std.proofs.Common.{◌≡◌, ℕ, zero, suc, ◌+◌, ◌-◌, ◌<◌, ◌≤◌, ◌^◌, List, [], ◌∷◌, ◌++◌, length, take, drop, All, Some, inl, inr, refl, ap, sym, subst, ◌∙◌, arith, append_assoc, length-append}
 use Rattle.std.specs.Prelude.{slice_get}
 use Rattle.std.proofs.lemmas.Bool.{cases_lt}
 use Rattle.std.proofs.lemmas.List.{append-nil, drop-map, length-map, length-take-le, take-append-drop}
-use Rattle.std.proofs.lemmas.List.Elements.{All-nil, All-cons, All-append}
-use Rattle.base_types.specs.Limits.{limit_of}
-use Rattle.base_types.specs.declared.which.Which.TheVariants.{Journal}
+use Rattle.std.proofs.lemmas.List.Elements.{All-nil, All-cons}
 use Rattle.journal_entries.specs.Spelling.{spelling}
 use Rattle.journal_entries.specs.declared.entry.Entry.{Entry}
 use Rattle.journal_packets.specs.Packets.{Framed, IsFramed, most_body}
-use Rattle.journal_packets.specs.Streams.{ExportsAreStreams, IsPacketOf, export, numbered}
+use Rattle.journal_packets.specs.Streams.{ExportsAreStreams, export, numbered}
 use Rattle.model_archive.specs.Histories.{History, end_of}
-use Rattle.model_archive.specs.Legal.{IsLegalEntry}
+use Rattle.plans_kinds.specs.Plans.{IsGoodPlan}
 use Rattle.model_archive.specs.Runs.{Outcome, IsRun}
 use Rattle.model_archive.specs.Standing.{last_state}
 use Rattle.model_archive.specs.Stands.{bodies_of}
@@ -25,7 +23,7 @@ use Rattle.model_follow.proofs.LeaderLemmas.{followed_middle}
 all_short : SpellingsHaveRoom → (before h : History) → EachMayBeTaken before h → All (λ (body : List ℕ). length body ≤ most_body) (bodies_of h)
 all_short room before [] each = All-nil (λ (body : List ℕ). length body ≤ most_body)
 all_short room before (e ∷ h) each =
-    All-cons (λ (body : List ℕ). length body ≤ most_body) (spelling e) (bodies_of h) (room before e each.0.legal) (all_short room (before ++ e ∷ []) h each.1)
+    All-cons (λ (body : List ℕ). length body ≤ most_body) (spelling e) (bodies_of h) (room IsGoodPlan before e each.0.legal) (all_short room (before ++ e ∷ []) h each.1)
 
 few_after : (before h : History) → EachMayBeTaken before h → end_of before ≤ 2 ^ 40 → end_of (before ++ h) ≤ 2 ^ 40
 few_after before [] each few = let E : History → Type 0 = λ g. end_of g ≤ 2 ^ 40 in subst E (sym (append-nil before)) few
@@ -89,7 +87,7 @@ leads leader history before (e ∷ rest) n room can on split long is = elim (cas
     proper = record {
       counted = omega (arith, is);
       numbered = omega (arith, is, few leader can, ap (λ (h : History). length h) split, length-append before (e ∷ rest));
-      short = room before e may.legal;
+      short = room IsGoodPlan before e may.legal;
     }
 
     again : leader ≡ (before ++ e ∷ []) ++ rest

@@ -1,21 +1,20 @@
 -- Archives that follow others keep to what those have.
-use Rattle.std.specs.Prelude.{◌≡◌, ◌⊎◌, ℕ, zero, suc, ◌+◌, ◌-◌, ◌≤◌, Bool, true, false, List, [], ◌∷◌, ◌++◌, length, map, slice_get, All, Option, Some, None, refl}
+use Rattle.std.specs.Prelude.{◌≡◌, ℕ, zero, suc, ◌+◌, ◌-◌, ◌≤◌, Bool, true, false, List, [], ◌∷◌, ◌++◌, length, map, slice_get, All, Option, Some, refl}
 use Rattle.std.proofs.Common.{arith, inl, inr, ap, sym, subst, ◌∙◌, append_assoc, append-nil}
 use Rattle.std.proofs.lemmas.List.Elements.{All-take, All-drop, All-head, All-tail, All-nil, All-weaker}
 use Rattle.std.proofs.Math.Seq.{take-append_seam, drop-append_seam}
 use Rattle.journal_packets.specs.Packets.{Framed, IsFramed, first}
 use Rattle.journal_packets.specs.Streams.{IsPacketOf, IsStreamOf, stream}
-use Rattle.journal_packets.specs.Cases.{DifferAt}
 use Rattle.journal_packets.specs.declared.first.First.TheVariants.{Bad}
 use Rattle.journal_packets.proofs.StreamLemmas.{one_way, never_bad}
 use Rattle.journal_entries.proofs.EntryLemmas.{one_entry}
 use Rattle.journal_entries.specs.Spelling.{spelling}
 use Rattle.journal_entries.specs.declared.entry.Entry.{Entry}
 use Rattle.model_archive.specs.Histories.{History}
-use Rattle.model_archive.specs.Runs.{Outcome, IsRun, state_after}
+use Rattle.model_archive.specs.Runs.{Outcome, state_after}
 use Rattle.model_archive.specs.Standing.{last_state}
 use Rattle.model_archive.specs.Stands.{bodies_of}
-use Rattle.model_follow.specs.Taking.{CanBeFollowed, EachMayBeTaken, MayBeTaken, SpellsNext}
+use Rattle.model_follow.specs.Taking.{CanBeFollowed, EachMayBeTaken, MayBeTaken}
 use Rattle.model_follow.specs.Following.{BeginWith, CannotBeTaken, DiffersAt, Follows, Note, Had, Took}
 use Rattle.model_follow.specs.Laws.{AreOf, FollowersOfALeader, FollowersStayPrefixes, GoesOnFrom}
 

@@ -1,5 +1,5 @@
 mod RoomLemmas
 mod PlacedLemmas
 mod StepLemmas
-pub mod LeaderLemmas
+mod LeaderLemmas
 mod ExportLemmas

@@ -1,19 +1,16 @@
 -- Live places share no page in a history that can be followed, and one entry more.
 use Rattle.std.proofs.Common.{◌≡◌, ◌⊎◌, ℕ, ◌+◌, ◌<◌, ◌≤◌, List, [], ◌∷◌, ◌++◌, inl, inr, sym, subst, append_assoc}
 use Rattle.std.proofs.lemmas.List.{append-nil}
-use Rattle.base_types.specs.Limits.{limit_of}
 use Rattle.base_types.specs.declared.extent.Extent.{Extent}
-use Rattle.base_types.specs.declared.which.Which.TheVariants.{Journal}
 use Rattle.pages_area.specs.Placing.{ArePlaced}
 use Rattle.pages_area.specs.Runs.{IsPageOf, IsTaken, pages_for}
 use Rattle.pages_area.specs.Taken.{AreApart, IsApartFrom}
 use Rattle.journal_entries.specs.declared.entry.Entry.{Entry}
 use Rattle.journal_entries.specs.declared.entry.Entry.TheVariants.{Arrive, Delete, Planned, Format, Batch}
-use Rattle.model_archive.specs.Histories.{History, end_of}
+use Rattle.model_archive.specs.Histories.{History}
 use Rattle.model_archive.specs.Legal.{EachMayCome, IsLegal}
 use Rattle.model_archive.specs.Plans.{live_extents, live_plans}
 use Rattle.plans_kinds.specs.Plans.{IsGoodPlan}
-use Rattle.model_archive.proofs.HistoryLemmas.{legal-push}
 use Rattle.model_archive.proofs.HoldLemmas.{all_extents, apart_more, same_live}
 use Rattle.model_archive.specs.declared.stored.StoredPlan.{StoredPlan}
 use Rattle.model_follow.specs.Taking.{CanBeFollowed, EachMayBeTaken, MayBeTaken}

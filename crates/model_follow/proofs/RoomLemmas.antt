@@ -1,5 +1,5 @@
 -- A packet has room for each legal entry.
-use Rattle.std.proofs.Common.{◌≡◌, ℕ, ◌+◌, ◌*◌, ◌<◌, ◌≤◌, Bool, true, false, nat_lt, List, [], ◌∷◌, ◌++◌, length, sum_by, All, None, refl, ap, arith, length-append}
+use Rattle.std.proofs.Common.{◌≡◌, ℕ, ◌+◌, ◌*◌, ◌≤◌, Bool, true, false, nat_lt, List, [], ◌∷◌, length, sum_by, None, refl, arith, length-append}
 use Rattle.std.proofs.lemmas.Bool.{ltb-false}
 use Rattle.std.proofs.lemmas.List.Sums.{sum_by-cons}
 use Rattle.base_commands.specs.declared.command.Kind.{Kind}
@@ -7,16 +7,13 @@ use Rattle.base_commands.specs.declared.command.Kind.TheVariants.{Guarantee, Uni
 use Rattle.journal_entries.specs.Acts.{act_bytes, act_length, acts_bytes, batch_spelling}
 use Rattle.journal_entries.specs.PlanBytes.{kind_length, plan_length}
 use Rattle.journal_entries.specs.PlanSpelling.{IsPlanEntry, plan_spelling}
-use Rattle.journal_entries.specs.Spelling.{spelling}
 use Rattle.journal_entries.specs.declared.act.Act.{Act}
 use Rattle.journal_entries.specs.declared.act.Act.TheVariants as batched
-use Rattle.journal_entries.specs.declared.entry.Entry.{Entry}
 use Rattle.journal_entries.specs.declared.entry.Entry.TheVariants.{Arrive, Delete, Planned, Format, Batch}
 use Rattle.journal_entries.specs.declared.plan.PlanEntry.{PlanEntry}
 use Rattle.lists_versions.specs.Tests.{when}
 use Rattle.model_archive.specs.declared.refusal.Refusal.TheVariants.{BatchTooLong}
-use Rattle.model_archive.specs.Histories.{History, acts_refusal, entry_refusal, long_batch, most_batch, old_format}
-use Rattle.model_archive.specs.Legal.{IsLegalEntry}
+use Rattle.model_archive.specs.Histories.{acts_refusal, long_batch, most_batch, old_format}
 use Rattle.model_archive.proofs.BatchLemmas.{none_found}
 use Rattle.model_follow.specs.Laws.{SpellingsHaveRoom}
 
@@ -45,12 +42,12 @@ kind_room Uniform = omega arith
 kind_room (Since at) = omega arith
 
 pub has_room : ((p : PlanEntry) → IsPlanEntry p → length (plan_spelling p) ≡ plan_length p) → SpellingsHaveRoom
-has_room long before (Arrive doc at text) legal = let most = legal.ranges.2 in omega (arith, most)
-has_room long before (Delete doc at) legal = omega arith
-has_room long before (Planned plan) legal =
+has_room long Good before (Arrive doc at text) legal = let most = legal.ranges.2 in omega (arith, most)
+has_room long Good before (Delete doc at) legal = omega arith
+has_room long Good before (Planned plan) legal =
     omega (arith, long plan legal.ranges, kind_room plan.kind, legal.ranges.well_cut.most, legal.ranges.word.1)
-has_room long before Format legal = omega arith
-has_room long before (Batch batch) legal =
+has_room long Good before Format legal = omega arith
+has_room long Good before (Batch batch) legal =
     let one = none_found (old_format before) (long_batch (sum_by act_length batch) ∷ acts_refusal before batch ∷ []) legal.allowed in
     let two = none_found (long_batch (sum_by act_length batch)) (acts_refusal before batch ∷ []) one.1 in
     omega (arith, batch_room batch, legal.ranges.sized.1, not_long (sum_by act_length batch) two.0)

@@ -1,5 +1,5 @@
 -- The steps of the abstract archive lead from a history that can be followed to such a one.
-use Rattle.std.proofs.Common.{◌≡◌, ◌⊎◌, ℕ, suc, ◌<◌, ◌≤◌, Bool, true, false, nat_lt, List, [], ◌∷◌, ◌++◌, length, All, Option, Some, None, IfSome, inl, inr, refl, ap, sym, subst, ◌∙◌, arith}
+use Rattle.std.proofs.Common.{◌≡◌, ℕ, ◌≤◌, Bool, true, false, nat_lt, List, [], ◌∷◌, ◌++◌, length, All, Option, Some, None, IfSome, inl, inr, refl, sym, subst, arith}
 use Rattle.std.specs.List.{flat_map}
 use Rattle.std.specs.Str.{bytes_eq}
 use Rattle.std.proofs.lemmas.Bool.{ltb-false}
@@ -30,7 +30,6 @@ use Rattle.plans_share.specs.declared.asked.Asking.{Asking}
 use Rattle.text_words.specs.Terms.{one_term}
 use Rattle.model_archive.specs.declared.refusal.Refusal.{Refusal}
 use Rattle.model_archive.specs.declared.refusal.Refusal.TheVariants as refusals
-use Rattle.model_archive.specs.declared.stored.StoredPlan.{StoredPlan}
 use Rattle.model_archive.specs.Histories.{History, end_of, entry_refusal, long_batch, old_format}
 use Rattle.model_archive.specs.Legal.{IsLegal, MayBePlanned}
 use Rattle.model_archive.specs.Planning.{IsListUpTo, OfPhrase, OfWidth, last_second}
