@@ -204,21 +204,21 @@ topped s count at expr reply next standing (Err place, read, is, asks) =
     let same = asks_same s next at.seconds (at.seconds + 1) (Err place) asks in (((same.0, (Err place, read, is)), same.2), same_next s next same.0 same.1 standing)
 
 neared : (s : Store) (tolerance : Tolerance) (at : Time) (expr : List ℕ) (reply : Reply) (next : Store) → IsStanding s → StoreStep s (items.Command (commands.Rough tolerance at expr)) reply next
-    → Step (world_of s.history) (items.Command (commands.Rough tolerance at expr)) reply (world_of next.history) × IsStanding next
+    → Step (world_by s) (items.Command (commands.Rough tolerance at expr)) reply (world_by next) × IsStanding next
 neared s tolerance at expr reply next standing (Ok query, read, (rows, count, made, is), asks) =
     let same = asks_same s next 0 (2 ^ 40) (Ok query) asks in
     let stands = made_rough s.history s.pages tolerance at.seconds query rows count standing.loadable standing.held made in
-    ((same.0, (Ok query, read, (rows, count, stands.0, stands.1, is))), same_next s next same.0 same.1 standing)
+    (((same.0, (Ok query, read, (rows, count, stands.0, stands.1, is))), same.2), same_next s next same.0 same.1 standing)
 neared s tolerance at expr reply next standing (Err place, read, is, asks) =
-    let same = asks_same s next 0 (2 ^ 40) (Err place) asks in ((same.0, (Err place, read, is)), same_next s next same.0 same.1 standing)
+    let same = asks_same s next 0 (2 ^ 40) (Err place) asks in (((same.0, (Err place, read, is)), same.2), same_next s next same.0 same.1 standing)
 
 bested : (s : Store) (count : BestCount) (at : Time) (expr : List ℕ) (b : Bool) (reply : Reply) (next : Store) → IsStanding s → AnswersBest b s count at expr reply next
-    → (next.history ≡ s.history) × (next.pages ≡ s.pages) × Bests b s.history count at expr reply
+    → (next.history ≡ s.history) × (next.pages ≡ s.pages) × (next.asked ≡ s.asked) × Bests b s.history count at expr reply
 bested s count at expr true reply next standing (Ok query, read, (told, made), asks) =
-    let same = asks_same s next at.seconds (at.seconds + 1) (Ok query) asks in (same.0, same.1, (Ok query, read, made standing.held))
+    let same = asks_same s next at.seconds (at.seconds + 1) (Ok query) asks in (same.0, same.1, same.2, (Ok query, read, made standing.held))
 bested s count at expr true reply next standing (Err place, read, is, asks) =
-    let same = asks_same s next at.seconds (at.seconds + 1) (Err place) asks in (same.0, same.1, (Err place, read, is))
-bested s count at expr false reply next standing (same, replied) = (ap (λ (x : Store). x.history) same, ap (λ (x : Store). x.pages) same, replied)
+    let same = asks_same s next at.seconds (at.seconds + 1) (Err place) asks in (same.0, same.1, same.2, (Err place, read, is))
+bested s count at expr false reply next standing (same, replied) = (ap (λ (x : Store). x.history) same, ap (λ (x : Store). x.pages) same, ap (λ (x : Store). x.asked) same, replied)
 
 spanned : (s : Store) (span : Span) (expr : List ℕ) (reply : Reply) (next : Store) → IsStanding s → StoreStep s (items.Command (commands.Between span expr)) reply next
     → Step (world_by s) (items.Command (commands.Between span expr)) reply (world_by next) × IsStanding next
@@ -239,9 +239,9 @@ step_standing s (items.Command (commands.Find at expr)) reply next standing rang
 step_standing s (items.Command (commands.Top count at expr)) reply next standing range step = topped s count at expr reply next standing step
 step_standing s (items.Command (commands.Rough tolerance at expr)) reply next standing range step = neared s tolerance at expr reply next standing step
 step_standing s (items.Command (commands.Approx word tolerance)) reply next standing range (same, is) =
-    let history = ap (λ (x : Store). x.history) same in ((history, is), same_next s next history (ap (λ (x : Store). x.pages) same) standing)
+    let history = ap (λ (x : Store). x.history) same in (((history, is), ap (λ (x : Store). x.asked) same), same_next s next history (ap (λ (x : Store). x.pages) same) standing)
 step_standing s (items.Command (commands.Best count at expr)) reply next standing range step =
-    let best = bested s count at expr (asks_for_any expr) reply next standing step in ((best.0, best.2), same_next s next best.0 best.1 standing)
+    let best = bested s count at expr (asks_for_any expr) reply next standing step in (((best.0, best.3), best.2), same_next s next best.0 best.1 standing)
 step_standing s (items.Command (commands.Between span expr)) reply next standing range step = spanned s span expr reply next standing step
 step_standing s (items.Command (commands.Show doc at)) reply next standing range (reads, is) =
     let history = ap (λ (x : Store). x.history) reads in (((history, is), ap (λ (x : Store). x.asked) reads), same_next s next history (ap (λ (x : Store). x.pages) reads) standing)

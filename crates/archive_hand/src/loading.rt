@@ -114,5 +114,13 @@ fn archive_of<D: Disk>(
     } = replayed;
     let reach = disk.length(Area::Pages)?;
     let shelf = Shelf::of(alloc, plans, reach)?;
-    Ok(Archive::of(alloc, journal, directory, index, shelf, heads.len() as u64, marked))
+    Ok(Archive::of(
+        alloc,
+        journal,
+        directory,
+        index,
+        shelf,
+        heads.len() as u64,
+        marked,
+    ))
 }

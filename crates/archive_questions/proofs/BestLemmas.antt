@@ -318,9 +318,6 @@ held-more h t words held read one word w are is = record {
   read_is = read-more h t (t + 1) words word read one are.read_is is.read_is;
 }
 
-pub none-held : (h : History) (t : ℕ) → AreHeld h t [] [] 0
-none-held h t = record { sheets = []; sheets_are = tt; held_as = tt; read_is = refl }
-
 -- what is damaged of one word is so of some that have it
 pub damaged-among : (h : History) (pages : List ℕ) (t : ℕ) (words : List (List ℕ)) (word : List ℕ) (damage : Damage) → Contains words word → IsDamagedOne h pages t word damage → IsDamagedAmong h pages t words damage
 damaged-among h pages t words word damage among one = record { word = word; among = among; plan = one.plan; live = one.live; damaged = one.damaged }

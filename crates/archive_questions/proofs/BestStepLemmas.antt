@@ -1,13 +1,11 @@
 -- The question for first rows by blocks is a step of the abstract archive by what reads give.
-use Rattle.std.proofs.Common.{◌≡◌, ℕ, ◌+◌, ◌<◌, ◌^◌, nat_lt, Bool, true, false, List, take, Result, Ok, Err, IfOk, OnOk, refl, ap, sym, subst, ◌∙◌}
+use Rattle.std.proofs.Common.{◌≡◌, ℕ, ◌+◌, Bool, true, false, List, Result, Ok, Err, refl, ap, sym, subst}
 use Rattle.machine_model.specs.States.{DiskState}
 use Rattle.base_types.specs.declared.time.Time.{Time}
 use Rattle.base_commands.specs.declared.command.Command.TheVariants as commands
 use Rattle.base_commands.specs.declared.command.Item.{Item}
 use Rattle.base_commands.specs.declared.command.Item.TheVariants as items
 use Rattle.base_commands.specs.declared.count.BestCount.{BestCount}
-use Rattle.pages_area.specs.Caches.{Kept}
-use Rattle.pages_sublists.specs.declared.why.Damage.{Damage}
 use Rattle.pages_sublists.specs.declared.why.FetchError.{FetchError}
 use Rattle.pages_sublists.specs.declared.why.FetchError.TheVariants as fetches
 use Rattle.query_lang.specs.declared.error.QueryError.{QueryError}
@@ -20,16 +18,14 @@ use Rattle.query_lang.proofs.ChainLaws.{any_scores}
 use Rattle.query_eval.specs.declared.answer.Row.{Row}
 use Rattle.model_archive.specs.Bests.{SpoilsBest}
 use Rattle.model_archive.specs.Chosen.{pieces_for}
-use Rattle.model_archive.specs.Histories.{History}
 use Rattle.model_archive.specs.Holding.{HoldsPlans}
-use Rattle.model_archive.specs.Steps.{Reply, FoundBest, Refused}
+use Rattle.model_archive.specs.Steps.{FoundBest, Refused}
 use Rattle.model_archive.specs.declared.refusal.Refusal.TheVariants as refusals
-use Rattle.archive_hand.specs.Asking.{HasAsked}
 use Rattle.archive_hand.specs.States.{ArchiveState, AreInStepBy, with_reads}
 use Rattle.archive_hand.specs.Stored.{AnswersBest, Spoils, Store, StoreStep, asking}
 use Rattle.archive_hand.specs.Takes.{TakesBy}
 use Rattle.archive_questions.specs.After.{AfterFetching}
-use Rattle.archive_questions.specs.Bests.{AfterBest, AsksBest, IsBestOf, IsDamagedAmong}
+use Rattle.archive_questions.specs.Bests.{AsksBest, IsBestOf}
 use Rattle.archive_questions.specs.Causes.{ask_error_of_query, asked_of}
 use Rattle.archive_questions.specs.Endings.{best_found}
 use Rattle.archive_questions.specs.declared.besting.BestAnswer.{BestAnswer}
@@ -70,26 +66,6 @@ found-step true s next count at text query best any read made asks = (
   ),
   asks,
 )
-
--- ---- what the question leaves
-
--- where nothing was asked for
-pub after-none : {T : Type 0} (tells : Type 0) (error : AskError) (d : DiskState) (a : ArchiveState) → (error ≡ asks.Failed → ⊥) → AfterBest {T = T} tells (Err error) d d a a
-after-none tells error d a unfailed = record { same = refl; but_cache = refl; cached = λ told cached. cached; failed = λ failed. absurd (unfailed cc) }
-
-fails : {T : Type 0} (r : Result T FetchError) → asked_of r ≡ Err asks.Failed → r ≡ Err fetches.Failed
-fails (Ok x) e = absurd cc
-fails (Err fetches.Failed) e = refl
-fails (Err (fetches.Damaged damage)) e = absurd cc
-fails (Err fetches.Memory) e = absurd cc
-
-pub after-asked : {T : Type 0} (tells : Type 0) (r : Result T AskError) (fetched : Result T FetchError) (d e : DiskState) (x y : ArchiveState) → r ≡ asked_of fetched → AfterFetching tells fetched d e x y → AfterBest tells r d e x y
-after-asked tells r fetched d e x y is after = record {
-  same = after.same;
-  but_cache = after.but_cache;
-  cached = after.cached;
-  failed = λ failed. after.failed (fails fetched (sym is ∙ failed));
-}
 
 -- ---- and that it is a step
 

@@ -184,7 +184,8 @@ fn offers_for(
 /// What is offered for a word.
 fn offered(alloc: Global, asked: &Asked, word: &Sealed, limits: Limits) -> Result<Offer, AllocError>
     requires plannable { IsPlannable word.now }
-    ensures offer { IfOk result (λ o. IsOffer (asked_in asked.now word.now.word) word.now.list.items word.now.horizon.seconds limits.unit o) }
+    ensures offer { IfOk result
+        (λ o. IsOffer (asked_in asked.now word.now.word) word.now.list.items word.now.horizon.seconds limits.unit o) }
     ensures few { IfOk result (λ o. length o.front ≤ 4097) }
     ensures cheap { IfOk result AreCheap }
 {

@@ -46,7 +46,8 @@ with_sharer s words = s ∷ filter (is_another s.word) words
 abbrev pub OfPhrases : History → ℕ → List (List ℕ) → (ℕ → Refusal → Type 0) → (List Sharer → Type 0) → Type 0
 OfPhrases history number [] Refuses GoesOn = GoesOn []
 OfPhrases history number (phrase ∷ phrases) Refuses GoesOn = OfPhrase Uniform history (one_term phrase) (Refuses number)
-    (λ word list. OfPhrases history (number + 1) phrases Refuses (λ words. GoesOn (with_sharer (record { word = word; list = list }) words)))
+    (λ word list. OfPhrases history (number + 1) phrases Refuses
+    (λ words. GoesOn (with_sharer (record { word = word; list = list }) words)))
 
 -- ---- what they get
 
@@ -57,8 +58,8 @@ shares_of words offers picks = []
 
 -- The budget that the factor gives the words is shared so: these are the shares of a best choice, in units of so many postings. Any of the best may be
 -- chosen.
-pub record IsShared (asked : List Asking) (horizon : ℕ) (factor : Fraction) (words : List Sharer) (shares : List Share) (unit budget cost : ℕ)
-    : Type 0 where
+pub record IsShared (asked : List Asking) (horizon : ℕ) (factor : Fraction) (words : List Sharer) (shares : List Share)
+    (unit budget cost : ℕ) : Type 0 where
   pub unit_is : unit ≡ caps.unit (shared_cap factor words)
   pub budget_is : budget ≡ caps.budget (shared_cap factor words)
   pub offers : List Offered

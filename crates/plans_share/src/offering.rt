@@ -101,7 +101,8 @@ fn in_units(point: Point, own: Limits, shared: Limits) -> Point
 
 /// The list in one piece.
 fn whole(table: &Table, times: &Times, shared: Limits) -> Point
-    ensures charge { (list : List Posting) (horizon : ℕ) → Tabulates list horizon table.now → result.charge ≡ charge shared.unit (length list) }
+    ensures charge { (list : List Posting) (horizon : ℕ) → Tabulates list horizon table.now
+        → result.charge ≡ charge shared.unit (length list) }
     ensures cost { (list : List Posting) (horizon : ℕ) → Tabulates list horizon table.now
         → result.cost ≡ expected_cost list (slice_index table.now.boundaries 0) (horizon ∷ []) table.now.boundaries
         (weights_by (λ a b. count_in a b times.now) table.now.boundaries) }

@@ -1,5 +1,5 @@
 -- What is held of a word is the sheet whose blocks are spelled there.
-use Rattle.std.specs.Prelude.{◌≡◌, ℕ, zero, suc, ◌+◌, ◌<◌, Bool, true, false, List, [], ◌∷◌, ◌++◌, length, map, get_or, Option, Some, None, refl}
+use Rattle.std.specs.Prelude.{◌≡◌, ℕ, zero, suc, ◌+◌, ◌<◌, ◌^◌, nat_lt, nat_le, Bool, true, false, List, [], ◌∷◌, ◌++◌, length, map, get_or, Option, Some, None, refl}
 use Rattle.std.specs.List.{AllZip}
 use Rattle.std.proofs.Common.{arith, ap, ap₂, sym, subst, ◌∙◌}
 use Rattle.std.proofs.lemmas.Bool.Decides.{nat_tests}
@@ -12,23 +12,29 @@ use Rattle.pages_codec.specs.Frames.{FramesState, block_bytes}
 use Rattle.pages_codec.proofs.BlockCodec.{block_codec}
 use Rattle.pages_sublists.specs.Framing.{IsOpened}
 use Rattle.query_top.specs.Sheets.{Sheet}
-use Rattle.query_best.specs.Reading.{may_be, posting_if, postings_in, postings_of, postings_or_none}
+use Rattle.query_best.specs.Reading.{if_so, posting_in, postings_in, postings_of, postings_or_none}
 use Rattle.query_best.specs.Held.{AreBlocksOf, IsHeldAs, blocks_from, blocks_in, heads_in, sheet_of}
 use Rattle.query_best.specs.Opening.{sheets_of}
 use Rattle.query_best.specs.declared.held.HeldBlocks.{HeldBlocks}
 use Rattle.query_best.specs.declared.held.HeldWord.{HeldWord}
 
-may-posting : (p : Posting) → may_be (fields p) ≡ true
-may-posting p = grind (arith, nat_tests, p.numbered, p.counted, p.bounded, p.span.ordered, p.span.in_time)
+so : {P : Type 0} (b : Bool) (tells : b ≡ true → P) (make : P → List Posting) (p : Posting) → b ≡ true → ((x : P) → make x ≡ p ∷ []) → if_so b tells make ≡ p ∷ []
+so true tells make p e each = each (tells refl)
+so false tells make p e each = absurd cc
 
-one-posting : (p : Posting) (b : Bool) (e : may_be (fields p) ≡ b) → posting_if (fields p) b e ≡ p ∷ []
-unfolding posting_if
-one-posting p true e = ap (λ (x : Posting). x ∷ []) (same_posting _ p refl refl refl refl)
-one-posting p false e = absurd (let t = may-posting p in cc)
+one-posting : (p : Posting) → posting_in (fields p) ≡ p ∷ []
+unfolding posting_in
+one-posting p =
+    so (nat_lt p.doc.0 (2 ^ 32)) _ _ p (grind (arith, nat_tests, p.numbered)) λ numbered.
+    so (nat_le 1 p.tf) _ _ p (grind (arith, nat_tests, p.counted)) λ counted.
+    so (nat_lt p.tf (2 ^ 32)) _ _ p (grind (arith, nat_tests, p.bounded)) λ bounded.
+    so (nat_lt p.span.from p.span.to) _ _ p (grind (arith, nat_tests, p.span.ordered)) λ ordered.
+    so (nat_le p.span.to (2 ^ 40)) _ _ p (grind (arith, nat_tests, p.span.in_time)) λ in_time.
+    ap (λ (x : Posting). x ∷ []) (same_posting _ p refl refl refl refl)
 
 all-postings : (list : List Posting) → postings_of (map fields list) ≡ list
 all-postings [] = refl
-all-postings (p ∷ list) = ap₂ (λ (xs ys : List Posting). xs ++ ys) (one-posting p (may_be (fields p)) refl) (all-postings list)
+all-postings (p ∷ list) = ap₂ (λ (xs ys : List Posting). xs ++ ys) (one-posting p) (all-postings list)
 
 -- the postings of a list's spelling are the list
 pub spelled-postings : (list : List Posting) (bytes : List ℕ) → IsList list → bytes ≡ block_spelling list → postings_in bytes ≡ list

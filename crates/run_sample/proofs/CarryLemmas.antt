@@ -6,7 +6,7 @@ use Rattle.base_commands.specs.Documents.{HasDocument}
 use Rattle.base_commands.specs.declared.command.Command.{Command}
 use Rattle.base_commands.specs.declared.command.Item.TheVariants as items
 use Rattle.model_archive.specs.Histories.{History}
-use Rattle.model_archive.specs.Steps.{Reply, Accepted, Refused, Found, FoundBest, Planned, Verified, Shared}
+use Rattle.model_archive.specs.Steps.{Reply, Accepted, Refused, Found, FoundBest, Planned, Verified}
 use Rattle.model_archive.specs.Runs.{Outcome}
 use Rattle.model_archive.specs.Stands.{EachStands}
 use Rattle.model_archive.specs.Worlds.{World}

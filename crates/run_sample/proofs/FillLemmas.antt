@@ -13,7 +13,7 @@ use Rattle.base_commands.specs.declared.command.Item.TheVariants as items
 use Rattle.base_sample.specs.Samples.{changes, plans, questions, sample_of}
 use Rattle.model_archive.specs.declared.verdict.Verdict.{Verdict}
 use Rattle.model_archive.specs.Legal.{IsLoadable}
-use Rattle.model_archive.specs.Steps.{Reply, Accepted, Refused, Found, FoundBest, Planned, Verified, Step, Shared}
+use Rattle.model_archive.specs.Steps.{Reply, Accepted, Refused, Found, FoundBest, Planned, Verified, Step}
 use Rattle.model_archive.specs.Runs.{Outcome, IsRun, state_after}
 use Rattle.model_archive.specs.Standing.{last_state}
 use Rattle.model_archive.specs.Stands.{EachStands, StandsIn}

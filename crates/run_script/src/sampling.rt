@@ -89,7 +89,8 @@ fn fill_and_show<M: Machine>(
     ensures disk_later { (M.disk machine.old).faults ≤ (M.disk machine.new).faults }
     ensures disk_fault { result ≡ Status.Disk → Rose (M.disk machine.old).faults (M.disk machine.new).faults }
     ensures sink_fault { result ≡ Status.Sink → Rose (M.sink machine.old).faults (M.sink machine.new).faults }
-    ensures undamaged { M.disk_tells → AreInStep (M.disk machine.old) archive.old (world_of []) → (d : Damage) → result ≡ Status.Damaged d → ⊥ }
+    ensures undamaged { M.disk_tells → AreInStep (M.disk machine.old) archive.old (world_of []) → (d : Damage) →
+        result ≡ Status.Damaged d → ⊥ }
     ensures sampled { M.sink_tells → M.disk_tells → AreInStep (M.disk machine.old) archive.old (world_of []) →
         (began : DiskState) → IsLoaded (M.sink machine.old).shown began (M.disk machine.old) →
         Sampled numbers.seed numbers.count result (M.sink machine.old) (M.sink machine.new) began (M.disk machine.new) }

@@ -8,13 +8,15 @@ from dataclasses import dataclass
 from hashlib import sha256
 from typing import Iterator
 
-from .base import FOREVER, MOST_BATCH, MOST_BYTES, MOST_DOCUMENTS, MOST_TEXT, MOST_VERSIONS, MOST_WORDS, PAGE
+from .base import FOREVER, MOST_BATCH, MOST_BEST_ROWS, MOST_BYTES, MOST_DOCUMENTS, MOST_TEXT, MOST_TOP_ROWS, MOST_VERSIONS
+from .base import MOST_WORDS, PAGE
 from .base import Broken, Differs, NoCommand, NotArchive, Refused
-from .journal import Batch, Change, Mark, Place, Plan, read_entry, read_journal, spell_journal, sublist
+from .firsts import Sheet, test_opened
+from .journal import BLOCKS, Batch, Change, Mark, Place, Plan, blocks_of, clipped, read_entry, read_journal, spell_journal, sublist
 from .plans import GUARANTEE, SINCE, UNIFORM, Line, Posting, near_postings, stretches, test_segments, test_width, told
 from .shares import MOST_ASKED, test_shares
 from .script import Item, count_of, document_of, factor_of, items, query_behind, time_of, tolerance_of
-from .words import Query, keys, one_key
+from .words import Query, asks_for_any, keys, one_key
 
 
 @dataclass(frozen=True)
@@ -159,7 +161,9 @@ class Archive:
             case [b"find", time, _, *_]:
                 return self._find(time_of([time]), query_behind(item.line, 2))
             case [b"top", count, time, _, *_]:
-                return self._top(count_of(count), time_of([time]), query_behind(item.line, 3))
+                return self._top(count_of(count, MOST_TOP_ROWS), time_of([time]), query_behind(item.line, 3))
+            case [b"best", count, time, _, *_]:
+                return self._best(count_of(count, MOST_BEST_ROWS), time_of([time]), query_behind(item.line, 3), choice)
             case [b"approx", word, tolerance]:
                 return self._approx(word.decode(), tolerance_of(tolerance))
             case [b"rough", tolerance, time, _, *_]:
@@ -285,10 +289,33 @@ class Archive:
     def _top(self, count: int, time: int, asked: bytes) -> list[str]:
         return self._found(time, Query(asked), count)
 
+    def _best(self, count: int, time: int, asked: bytes, choice: Choice) -> list[str]:
+        query = Query(asked)
+        if not asks_for_any(asked):
+            raise Refused("20 NotDisjunction")
+        *hits, end = self._found(time, query, count)
+        shown = re.match(rb"(?:hit \d+ \d+\n)*end \d+ read \d+ opened (\d+) of \d+\n", choice.shown)
+        opened = int(shown[1]) if shown else 0
+        sheets = [self._sheet(key, weight, time) for key, weight in query.weights.items()]
+        documents = {int(hit.split()[1]) for hit in hits}
+        return [*hits, f"{end} opened {opened} of {test_opened(sheets, self._scores(time, query), documents, count, time, opened)}"]
+
+    def _sheet(self, key: str, weight: int, time: int) -> Sheet:
+        """The blocks of the sublist that has a time, or the postings that hold it of a list that isn't in blocks."""
+        plan = self.plans.get(key)
+        if plan and plan.layout == BLOCKS and time < plan.horizon:
+            segments = [it for it in plan.segments() if it[0] <= time < it[1]]
+            return Sheet(weight, [block for it in segments for block in blocks_of(self.postings(key, 0, plan.horizon), *it)], [])
+        return Sheet(weight, [], clipped(self.postings(key), time, time + 1))
+
+    def _scores(self, time: int, query: Query) -> dict[int, int]:
+        """What the documents score that a query finds at a time."""
+        scores = {document: query.score(self._alive(document, time).counts) for document in self.documents}
+        return {document: score for document, score in scores.items() if score is not None}
+
     def _found(self, time: int, query: Query, most: int) -> list[str]:
         """So many rows at most of what a query finds at a time."""
-        scores = {document: query.score(self._alive(document, time).counts) for document in self.documents}
-        rows = sorted((-score, document) for document, score in scores.items() if score is not None)
+        rows = sorted((-score, document) for document, score in self._scores(time, query).items())
         hits = [f"hit {document} {-score}" for score, document in rows[:most]]
         return [*hits, f"end {len(hits)} read {self._read(query, time, time + 1)}"]
 

@@ -22,7 +22,7 @@ def test_shares(lines: dict[str, Line], asked: dict[str, list[int]], factor: tup
         raise Differs(f"{shares} aren't among {offers}")
     if shares != wholes and sum(charge for charge, _ in shares.values()) > cap // unit:
         raise Differs(f"{shares} are charged more than {cap // unit}")
-    cost, least = sum(cost for _, cost in shares.values()), min(sum(cost for _, cost in wholes.values()), *_least(offers, cap // unit))
+    cost, least = sum(cost for _, cost in shares.values()), min([sum(cost for _, cost in wholes.values()), *_least(offers, cap // unit)])
     if cost != least:
         raise Differs(f"{shares} cost {cost}, and {least} is the least")
     told = [f"share {key} {charge} {cost}" for key, (charge, cost) in shares.items()]

@@ -1,4 +1,4 @@
-use Rattle.std.proofs.Common.{◌≡◌, Err, Ok, ap, subst, sym, ◌∙◌}
+use Rattle.std.proofs.Common.{Err, Ok, ap, subst, sym, ◌∙◌}
 use Rattle.query_lang.specs.Grammar.{IsRead}
 use Rattle.query_lang.specs.Tokens.{term_of}
 use Rattle.query_lang.specs.Chains.{asks_for_any}

@@ -1,4 +1,4 @@
-use Rattle.std.proofs.Common.{◌≡◌, ℕ, ◌+◌, ◌≤◌, List, All, Err, rules, ap, refl, subst, sym, ◌∙◌}
+use Rattle.std.proofs.Common.{ℕ, ◌+◌, ◌≤◌, List, All, rules, refl, subst, sym, ◌∙◌}
 use Rattle.pages_sublists.specs.declared.why.Damage.{Damage}
 use Rattle.query_best.specs.Held.{IsBadOf}
 use Rattle.model_archive.specs.Chosen.{pieces_for}

@@ -1,4 +1,4 @@
-use Rattle.std.proofs.Common.{◌≡◌, ℕ, Err, None, refl, rules, ap, ◌∙◌}
+use Rattle.std.proofs.Common.{Err, None, refl, rules, ap, ◌∙◌}
 use Rattle.lists_postings.specs.Lists.{rows_at}
 use Rattle.pages_sublists.specs.declared.why.FetchError.{FetchError}
 use Rattle.archive_questions.proofs.BestLemmas.{at-hand, hand-damaged}

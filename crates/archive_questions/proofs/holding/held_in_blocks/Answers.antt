@@ -1,8 +1,7 @@
-use Rattle.std.proofs.Common.{◌≡◌, ℕ, ◌+◌, List, Err, Some, get_or, refl, rules, ap, subst, sym, ◌∙◌}
-use Rattle.pages_sublists.specs.declared.why.FetchError.{FetchError}
+use Rattle.std.proofs.Common.{◌≡◌, ℕ, ◌+◌, List, get_or, rules, ap, subst, sym, ◌∙◌}
 use Rattle.pages_sublists.specs.declared.why.Damage.{Damage}
 use Rattle.model_archive.specs.declared.stored.StoredPlan.{StoredPlan}
-use Rattle.model_archive.specs.Chosen.{IsTailFor, pieces_chosen}
+use Rattle.model_archive.specs.Chosen.{IsTailFor}
 use Rattle.model_archive.proofs.SheetLemmas.{live_in_turn}
 use Rattle.archive_plans.specs.Shelves.{ShelfState}
 use Rattle.archive_plans.specs.Framing.{IsUnframedAt}

@@ -1,7 +1,6 @@
-use Rattle.std.proofs.Common.{arith, rules, ◌≡◌, ℕ, ◌+◌, ◌++◌, ◌∷◌, List, [], length, take, drop, Err, ap, sym, subst, ◌∙◌}
-use Rattle.std.proofs.lemmas.List.{take_more, take-append-drop, length_push, take_all}
+use Rattle.std.proofs.Common.{arith, rules, ◌≡◌, ℕ, ◌+◌, ◌++◌, ◌∷◌, List, [], length, take, Err, ap, sym, subst, ◌∙◌}
+use Rattle.std.proofs.lemmas.List.{take_more, length_push}
 use Rattle.machine_model.specs.States.{DiskState}
-use Rattle.pages_sublists.specs.declared.why.Damage.{Damage}
 use Rattle.pages_sublists.specs.declared.why.FetchError.{FetchError}
 use Rattle.query_best.specs.Held.{IsBadOf}
 use Rattle.query_best.specs.declared.held.HeldWord.{HeldWord}
@@ -11,8 +10,8 @@ use Rattle.model_archive.specs.Plans.{plan_of}
 use Rattle.machine_model.proofs.MomentLemmas.{reads_join}
 use Rattle.archive_hand.specs.Asking.{HasAsked}
 use Rattle.archive_hand.proofs.CacheLemmas.{stands_but_cache}
-use Rattle.archive_questions.specs.Bests.{AreHeld, IsDamagedAmong, IsDamagedOne, IsHeldOne}
-use Rattle.archive_questions.proofs.BestLemmas.{bad-more, damaged-among, damaged-front, held-more}
+use Rattle.archive_questions.specs.Bests.{AreHeld, IsDamagedAmong, IsDamagedOne}
+use Rattle.archive_questions.proofs.BestLemmas.{bad-more, damaged-among, held-more}
 use Rattle.archive_questions.proofs.CacheLemmas.{asked_joins, but_cache_joins, pieces_more}
 use Rattle.archive_questions.proofs.ChosenLemmas.{handed, reaches_on}
 use Rattle.archive_questions.proofs.holding.held_of_all.Goals as goal
