@@ -78,7 +78,16 @@ leads leader history before [] n room can on split long is =
     let same : history ≡ before = same_front history before on.0 [] (sym on.1 ∙ split)
         (omega (arith, long, ap (λ (h : History). length h) whole, ap (λ (h : History). length h) on.1, length-append history on.0)) in
     ([], tt, same ∙ sym whole)
-leads leader history before (e ∷ rest) n room can on split long is = elim (cases_lt (length before) (length history)) [ | inl within ↦ had within | inr not ↦ took (omega (arith, long, not)) ]
+leads leader history before (e ∷ rest) n room can on split long is = elim (cases_lt (length before) (length history)) [
+  | inl within ↦
+      had within
+      (leads leader history (before ++ e ∷ []) rest (n + 1) room can on again (omega (arith, within, length-append before (e ∷ []))) (omega (arith, is, length-append before (e ∷ []))))
+  | inr past ↦
+      let level : length before ≡ length history = omega (arith, long, past) in
+      took level
+      (leads leader (history ++ e ∷ []) (before ++ e ∷ []) rest (n + 1) room can (next_on level) again
+      (omega (arith, level, length-append before (e ∷ []), length-append history (e ∷ []))) (omega (arith, is, length-append before (e ∷ []))))
+]
   where
     may : MayBeTaken before e
     may = followed_middle before e rest (subst CanBeFollowed split can)
@@ -93,24 +102,27 @@ leads leader history before (e ∷ rest) n room can on split long is = elim (cas
     again : leader ≡ (before ++ e ∷ []) ++ rest
     again = split ∙ sym (append_assoc before (e ∷ []) rest)
 
+    same : length before ≡ length history → before ≡ history
+    same level = same_front before history (e ∷ rest) on.0 (sym split ∙ on.1) level
+
+    next_on : length before ≡ length history → GoesOnFrom (history ++ e ∷ []) leader
+    next_on level = (rest, again ∙ ap (λ (h : History). (h ++ e ∷ []) ++ rest) (same level))
+
     had : length before < length history
+        → ((outcomes : List (Outcome Note History)) × IsRun Follows history (numbered (n + 1) (bodies_of rest)) outcomes × (last_state history outcomes ≡ leader))
         → (outcomes : List (Outcome Note History)) × IsRun Follows history (numbered n (bodies_of (e ∷ rest))) outcomes × (last_state history outcomes ≡ leader)
-    had within =
-        let (outcomes, run, last) = leads leader history (before ++ e ∷ []) rest (n + 1) room can on again (omega (arith, within, length-append before (e ∷ []))) (omega (arith, is, length-append before (e ∷ []))) in
+    had within (outcomes, run, last) =
         let place : n - 1 ≡ length before = omega (arith, is) in
         let here : slice_get (bodies_of history) (n - 1) ≡ Some (spelling e) =
             ap (λ k. slice_get (bodies_of history) k) place ∙ inside history on.0 before rest e (sym on.1 ∙ split) within in
         (record { reply = Had n; next = history } ∷ outcomes, ((refl, record { proper = proper; is = here }, refl), run), last)
 
     took : length before ≡ length history
+        → ((outcomes : List (Outcome Note History)) × IsRun Follows (history ++ e ∷ []) (numbered (n + 1) (bodies_of rest)) outcomes × (last_state (history ++ e ∷ []) outcomes ≡ leader))
         → (outcomes : List (Outcome Note History)) × IsRun Follows history (numbered n (bodies_of (e ∷ rest))) outcomes × (last_state history outcomes ≡ leader)
-    took long =
-        let same : before ≡ history = same_front before history (e ∷ rest) on.0 (sym split ∙ on.1) long in
-        let next : History = history ++ e ∷ [] in
-        let on_next : GoesOnFrom next leader = (rest, again ∙ ap (λ (h : History). (h ++ e ∷ []) ++ rest) same) in
-        let (outcomes, run, last) = leads leader next (before ++ e ∷ []) rest (n + 1) room can on_next again
-            (omega (arith, long, length-append before (e ∷ []), length-append history (e ∷ []))) (omega (arith, is, length-append before (e ∷ []))) in
-        (record { reply = Took n; next = next } ∷ outcomes, ((refl, omega (arith, is, long), (e, refl, subst (λ (h : History). MayBeTaken h e) same may, refl)), run), last)
+    took level (outcomes, run, last) =
+        (record { reply = Took n; next = history ++ e ∷ [] } ∷ outcomes,
+        ((refl, omega (arith, is, level), (e, refl, subst (λ (h : History). MayBeTaken h e) (same level) may, refl)), run), last)
 
 pub exports_lead : SpellingsHaveRoom → ExportsLeadToTheLeader
 exports_lead room leader history from can on some within =

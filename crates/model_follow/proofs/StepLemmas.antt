@@ -123,7 +123,8 @@ plans h phrase kind factor reply next can legal =
     stored : (word : List ℕ) (list : List Posting) → IsListUpTo h word (last_second h) list → StoresPlan h kind factor word list reply next → CanBeFollowed next
     stored word list is s = elim s.stores [
       | inl full ↦ stays h next full.1.0 can
-      | inr (places, placed, zip, step) ↦
+      | inr fits ↦
+          let (places, placed, zip, step) = fits in
           let plan = in_blocks word kind factor s.horizon s.cuts places in
           let U : ℕ → Type 0 = λ n. IsListUpTo h word n list in
           adds_plan plan (full_journal h (entries.Planned plan)) list (λ none. none)

@@ -11,9 +11,6 @@ pub stream_more : (xs ys : List Framed) → stream (xs ++ ys) ≡ stream xs ++ s
 stream_more [] ys = refl
 stream_more (p ∷ xs) ys = ap (λ (l : List ℕ). packet_bytes p.number p.body ++ l) (stream_more xs ys) ∙ sym (append_assoc (packet_bytes p.number p.body) (stream xs) (stream ys))
 
-framed : ℕ → List ℕ → Framed
-framed n body = record { number = n; body = body }
-
 numbered_nth : (n : ℕ) (bodies : List (List ℕ)) (k : ℕ) (body : List ℕ) → slice_get bodies k ≡ Some body → slice_get (numbered n bodies) k ≡ Some (record { number = n + k; body = body })
 numbered_nth n [] k body e = absurd cc
 numbered_nth n (b ∷ bodies) zero body e =
