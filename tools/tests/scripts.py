@@ -51,9 +51,11 @@ NO_COMMANDS = [
     b"find", b"find 10", b"find 10 \xc3\x28", b"between 5 5 red", b"between 7 3 red", b"between 1 2", b"plan", b"plan red",
     b"plan red guarantee", b"plan red space 2/1", b"plan red space 2/1 since", b"plan red space 2/1 uniform 3", b"plan \xff guarantee 2/1",
     b"propose red", b"propose red space 2/1 uniform", b"certificate", b"certificate red blue", b"verify now", b"\r", b"\0", b"\xff\xfe",
-    b"begin red guarantee 2/1", b"format", b"format 02", b"top 0 10 red", b"top 1000001 10 red", b"top 3 10", b"top 3.0 10 red", b"best 3 10 red", b"approx red", b"approx red blue 1/2",
-    b"approx red 2/2", b"rough 1/2 10", b"rough 2/1 10 red", b"rough 10 red",
-    b"share 2/1 red blue", b"batch", b"batch 0", b"batch 1001", b"batch x", b"batch 1 2", b"batch -1", b"q" * 4_096,
+    b"begin red guarantee 2/1", b"format", b"format 02", b"top 0 10 red", b"top 1000001 10 red", b"top 3 10", b"top 3.0 10 red",
+    b"best 0 10 red", b"best 1001 10 red", b"best 3 10", b"best 3 10 \xff", b"best -1 10 red", b"best red",
+    b"approx red", b"approx red blue 1/2", b"approx red 2/2", b"rough 1/2 10", b"rough 2/1 10 red", b"rough 10 red",
+    b"share 17/1 red", b"share 33/2 red", b"share 1/2 red", b"share 2/1", b"share", b"share red 2/1", b"share 2/1 red \xff",
+    b"share 1/1" + b" red" * 17, b"batch", b"batch 0", b"batch 1001", b"batch x", b"batch 1 2", b"batch -1", b"q" * 4_096,
 ]  # fmt: skip
 BROKEN = [b"arrive\n", b"arrive 1 2\n", b"arrive 1 x 3\nred\n", b"arrive 1 2 3 4\n", b"  arrive 1 1969-01-01 0\n\n", b"r" * 4_097]
 SKIPPED = [b"", b"   ", b"#", b"# arrive 1 2 3", b"#\xff\xfe", b"#" * 4_096, b" " * 4_096]
@@ -150,6 +152,23 @@ class Writer:
 
     # -- lines
 
+    def any_of(self) -> bytes:
+        """Words with one `or` between each and the next, or what is nearly that."""
+        words = [self.token() if self.is_one_in(3) else self.word() for _ in range(self.chance.choice([1, 1, 2, 2, 3, 5]))]
+        query = self.chance.choice([" or ", " or ", " or ", "  or   "]).join(words)
+        if self.is_one_in(8):
+            query = self.chance.choice([f"({query})", f"not {query}", f"{query} and {self.word()}", f"{query} or", f"{query} or or {self.word()}", f"{query} {self.word()}"])
+        return query.strip(" ").encode()[:3_900]
+
+    def share(self) -> bytes:
+        """A budget for some words, of which some stand there twice, and some may be none."""
+        count = self.chance.choice([1, 1, 2, 3, 4, 16])
+        words = [self.chance.choice(self.chance.choice(self.words)) for _ in range(count)]
+        if self.is_one_in(4):
+            words[self.chance.randrange(count)] = self.chance.choice(["red-blue", "!", "moonless", self.word(), "y" * 256])
+        factor = self.chance.choice(["1/1", "1/1", "3/2", "2/1", "5/4", "4/1", "9/7", "16/1", "32/2", "016/1"])
+        return b"share %b %b" % (factor.encode(), " ".join(words).encode()[:3_900])
+
     def command(self) -> bytes:
         """One command, with its text where it is an arrival."""
         kind = self.chance.randrange(100)
@@ -161,6 +180,8 @@ class Writer:
             asked = self.asked_time(), self.query()
             if self.is_one_in(6):
                 return b"rough %b %b %b" % (self.tolerance(), *asked)
+            if self.is_one_in(5):
+                return b"best %b %b %b" % (self.chance.choice([b"1", b"2", b"3", b"007", b"1000"]), asked[0], self.any_of())
             return b"top %b %b %b" % (self.chance.choice([b"1", b"2", b"3", b"007", b"1000000"]), *asked) if self.is_one_in(4) else b"find %b %b" % asked
         if kind < 64:
             return b"between %b %b %b" % (*sorted([self.asked_time(), self.asked_time()], key=_in_order), self.query())
@@ -178,7 +199,7 @@ class Writer:
         if kind < 88:
             return b"propose %b guarantee %b" % (word.encode(), self.factor())
         if kind < 91:
-            return b"certificate %b" % word.encode()
+            return self.share() if self.is_one_in(3) else b"certificate %b" % word.encode()
         if kind < 93:
             return b"verify"
         if kind < 96:
@@ -258,6 +279,35 @@ class Writer:
         lines.append(b"plan %b space %b uniform\n" % (word, self.factor()))
         lines.append(b"find %d %b\nplan %b guarantee 3/2\nfind %d %b\n" % (self.clock - 9, word, word, self.clock - 7, word))
         return b"".join(lines)
+
+
+    def long_script(self) -> bytes:
+        """Words in some hundred documents, in some stretches of them more often, with plans that have their horizon behind some of the
+        times that are asked for, and questions for their first rows."""
+        self.words = [row for row in self.words if len(row[0]) < 20] or [SPELLINGS[0]]
+        changed: list[int] = []
+        lines = [b"format 2", *self.many_changes(changed), *self.many_changes(changed)]
+        for row in self.words:
+            plan = self.chance.choice(["guarantee 1/1", "guarantee 3/2", "guarantee 4294967295/1", "space 2/1 uniform", "space 1/1 uniform", ""])
+            lines += [b"plan %b %b" % (row[-1].encode(), plan.encode())] if plan else []
+        lines += self.many_changes(changed) if self.is_one_in(2) else []
+        for _ in range(20):
+            count = self.chance.choice([b"1", b"2", b"5", b"10", b"40", b"300"])
+            lines.append(b"best %b %d %b" % (count, max(0, self.clock - self.chance.randrange(15)), self.any_of()))
+        return b"\n".join(lines) + b"\n"
+
+    def many_changes(self, changed: list[int]) -> list[bytes]:
+        """A batch of arrivals at one time, of new documents or of some that changed before, and what is deleted at the same time."""
+        self.clock = min(self.clock + self.chance.randint(1, 9), (1 << 40) - 1)
+        acts, document, most, count = [], self.chance.choice([0, 1, 500]), 1, 100 if changed else self.chance.randint(150, 700)
+        for _ in range(count):
+            document += self.chance.choice([1, 1, 1, 2, 7, self.chance.choice([1, 1_000_000])])
+            most = self.chance.choice([1, 1, 2, 9]) if self.is_one_in(70) else most
+            text = " ".join(row[0] for row in self.words for _ in range(self.chance.choice([0, 1, 1, self.chance.randint(1, most)]))).encode()
+            deletes = document in changed and self.is_one_in(3)
+            acts.append(b"delete %d %d" % (document, self.clock) if deletes else b"arrive %d %d %d\n%b" % (document, self.clock, len(text), text))
+            changed += [document] if document not in changed else []
+        return [b"batch %d" % len(acts), *acts]
 
 
 def _in_order(time: bytes) -> int:
@@ -359,13 +409,15 @@ def journal_difference(folder: Folder, journal: bytes) -> str:
     return "" if outcome == wanted else f"{outcome}, and not {wanted}"
 
 
-def scenario_difference(program: str, seed: int, number: int) -> tuple[str, list[bytes]]:
+def scenario_difference(program: str, seed: int, number: int, is_long: bool = False) -> tuple[str, list[bytes]]:
     """Plays one scenario: how the program differs from the model, and the scripts (or a journal, at last) up to there."""
     chance = random.Random(f"{seed} {number}")
     writer, scripts = Writer(chance), []
     with Folder(program) as folder:
         for run in range(chance.randint(1, 4)):
             first = writer.wide_script() if writer.is_one_in(250) else writer.first_script() if run == 0 else b""
+            if run == 0 and (is_long or writer.is_one_in(40)):
+                first = writer.long_script()
             scripts.append(first + writer.script(chance.choice([3, 12, 30])))
             if difference := folder.difference(scripts[-1]):
                 return difference, scripts
@@ -381,13 +433,14 @@ def main() -> int:
     parser.add_argument("--count", type=int, default=300)
     parser.add_argument("--seed", type=int, default=1)
     parser.add_argument("--first", type=int, default=0, metavar="I", help="the number of the first scenario")
+    parser.add_argument("--long", action="store_true", help="each scenario begins with long lists that are asked for their first rows")
     words = parser.parse_args()
     runs = 0
     for number in range(words.first, words.first + words.count):
-        difference, scripts = scenario_difference(str(Path(words.program).resolve()), words.seed, number)
+        difference, scripts = scenario_difference(str(Path(words.program).resolve()), words.seed, number, words.long)
         runs += len(scripts)
         if difference:
-            again = f"--seed {words.seed} --first {number} --count 1"
+            again = f"--seed {words.seed} --first {number} --count 1" + " --long" * words.long
             print(*scripts, sep="\n", end="\n\n")
             print(f"scripts: {difference}\nscripts: in run {len(scripts)} of `{again}`, whose scripts are above")
             return 1

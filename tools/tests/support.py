@@ -42,6 +42,7 @@ _PROBES = {
         b"ok 1\nok 2\nok 3\nok 4\nplan 5 segments 3 space 2 full 2 horizon 4\nhit 1 1\nend 1 read 1\n",
     ),
     "space": (b"plan a space 1/1 uniform\n", b"no 13 UnknownWord\n"),
+    "shares": (b"share 1/1 a\n", b"no 13 UnknownWord in 1\n"),
     "mark": (b"format 2\n", b"ok 1\n"),
     "batches": (b"format 2\nbatch 1\narrive 1 1 1\na\n", b"ok 1\nok 2\n"),
 }

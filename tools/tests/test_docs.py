@@ -16,7 +16,7 @@ from support import TOOLS, answers
 TOP = TOOLS.parent
 STORY = re.compile(r"^## (.+?)\n(.*?)(?=^## |\Z)", re.MULTILINE | re.DOTALL)
 #: What the stories draw, and where the page has it.
-PICTURES = {"bridge.svg": "timeline.svg", "tradeoff.svg": "tradeoff.svg"}
+PICTURES = {"bridge.svg": "timeline.svg", "tradeoff.svg": "tradeoff.svg", "asked.svg": "tradeoff-asked.svg"}
 BLOCK = re.compile(r"^```console\n(.*?)^```$", re.MULTILINE | re.DOTALL)
 
 
@@ -47,6 +47,7 @@ def missing(story: str) -> list[str]:
         "queries": r'find "[^"]+ [^"]+"',
         "between": r"tt -C archive (between|timeline)",
         "propose": r"tt -C archive tradeoff",
+        "shares": r"tt -C archive share",
         "sublists": r"tt -C archive plan",
     }
     return [what for what, words in wanted.items() if re.search(words, story) and not answers(what)]

@@ -104,6 +104,21 @@ class Turns(Served):
             self.assertEqual(done.communicate(timeout=60)[0], "3 versions and 0 deletions are in the archive\n")
         self.assertEqual(len(self.found("text", 7)), 7)
 
+    @needs("shares")
+    def test_a_log_is_asked_in_a_run_of_its_own(self) -> None:
+        self.fill([Version(START + 5, "second", "the second text")])
+        self.serve()
+        for _ in range(3):
+            self.tt("find", "text", "--at", f"@{START + 1}")  # through the door, and so in the run of the server
+        log = self.folder / "asked.log"
+        log.write_text(f"find {START + 1} text\n")
+        self.assertEqual(self.tt("share", log, "--tsv").stdout, "text\t1\t1\t1\t1\t1\t1\n")
+        self.assertEqual(self.found("text", 2), ["first", "second"])
+        with socket.socket(socket.AF_UNIX) as door, address(self.archive / ".tt.cluster") as path:
+            door.bind(path)
+            door.listen()
+            self.assertRegex(self.tt("share", log, status=1).stderr, r"a `tt cluster` has this archive, and what it was asked by others counts, too: `tt -C ")
+
     def test_an_import_that_is_killed(self) -> None:
         served = self.serve()
         tree = self.tree("one", START + 10, 3)

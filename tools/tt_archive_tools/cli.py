@@ -149,6 +149,12 @@ def _add_questions(kinds: Kinds) -> None:
     plan = _command(kinds, "plan", "planning.plan", "store a plan of a word's list, which bounds reading or space")
     plan.add_argument("word", metavar="WORD")
     plan.add_argument("form", nargs="+", metavar="FORM", help="guarantee A/B, space A/B uniform, space A/B since TIME; 1.5 is 3/2")
+    share = _command(kinds, "share", "sharing.share", "propose factors for the words that were asked most, within one budget")
+    share.add_argument("log", type=Path, metavar="LOG", help="a file of lines `find TIME QUERY`, as in a script; - is standard input")
+    share.add_argument("--words", nargs="+", default=[], metavar="WORD", help="the words (those that the log asks for most often)")
+    share.add_argument("--budget", default="2", metavar="A/B", help="how many times the words' lists the plans may take together (2), at most 16")
+    share.add_argument("--most", type=int, default=16, metavar="N", help="how many of the words that were asked most (16)")
+    share.add_argument("--tsv", action="store_true", help="rows as tab-separated values, and nothing else")
 
 
 def _add_documents(kinds: Kinds) -> None:
@@ -171,6 +177,7 @@ def _add_pictures(kinds: Kinds) -> None:
     for picture in (line, trade):
         picture.add_argument("word", metavar="WORD")
         picture.add_argument("-o", "--output", type=Path, metavar="FILE.svg", help="where the picture goes (WORD.svg)")
+    trade.add_argument("--log", type=Path, metavar="LOG", help="for the questions of a file of lines `find TIME QUERY`, and with plans under a space bound")
     line.add_argument("--html", type=Path, metavar="FILE.html", help="write a page with the picture and a table, too")
 
 

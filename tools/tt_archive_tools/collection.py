@@ -132,6 +132,10 @@ class Collection:
         """The rows of a `find` or a `between`, as one archive gives them."""
         return merge_rows(self.rows_of(reply) for reply in self.ask_all(question))
 
+    def asked_places(self) -> list[Shard]:
+        """Which place of each of the archives is asked now."""
+        return [side.links[0].shard for side in self._sides]
+
     def last_time(self) -> int | None:
         """The archive's last time, or None before there is any entry."""
         return latest(self.last_times())
@@ -212,6 +216,8 @@ class Collection:
             from .serving.door import is_open  # loaded where it is needed
 
             self._door = CLUSTER if is_open(self.folder / CLUSTER) else ""
+        if self._door and claim.use is Use.ASKS_ALONE:
+            raise ToolError(f"a `tt cluster` has this archive, and what it was asked by others counts, too: `tt -C {self.folder} cluster stop` ends it")
 
     def _is_let_in(self, door: str) -> bool:
         if not (self.folder / door).exists():

@@ -64,6 +64,10 @@ def certificate(word: str) -> bytes:
     return _line(f"certificate {_one_word(word)}")
 
 
+def share(over: int, under: int, words: Sequence[str]) -> bytes:
+    return _line(f"share {over}/{under} {' '.join(map(_one_word, words))}")
+
+
 def verify() -> bytes:
     return b"verify\n"
 

@@ -5,7 +5,7 @@ this tt opened: tt itself, and each program that was handed the descriptor. So t
 that was killed stays locked until its program has ended. What is written in the file names these
 processes, and no lock rests on it.
 
-A `tt serve` holds that lock for days. So a tt that changes the archive first locks `.tt.turn`, and
+A `tt serve` holds that lock for days. So a tt that changes the archive, or asks in a run of its own, first locks `.tt.turn`, and
 holds it until it ends: a `tt serve` looks for this, gives the folder up, and takes it back
 afterwards. A tt that only asks is let in by the door of a `tt serve` (`serving/door.py`).
 """
@@ -28,7 +28,7 @@ from .times import show_time
 from .wording import one_line
 
 FILE = ".tt.lock"
-#: Locked by a tt that changes the archive, or waits to.
+#: Locked by a tt that has the archive for itself, or waits to.
 TURN = ".tt.turn"
 #: Where a `tt serve` answers the questions of others, and where a `tt cluster` carries out all.
 DOOR, CLUSTER = ".tt.socket", ".tt.cluster"
@@ -40,6 +40,7 @@ class Use(Enum):
     """What a tt wants a folder for."""
 
     ASKS = "to ask, be it through a `tt serve`"
+    ASKS_ALONE = "to ask in a run of its own, to which a `tt serve` gives way"
     CHANGES = "to change it, to which a `tt serve` gives way"
     SERVES = "to serve it"
 
@@ -74,7 +75,7 @@ class Lock:
 def locked(folder: Path, claim: Claim) -> Iterator[Lock]:
     """The folder's lock; what stands beside the archive is read and written under it."""
     with ExitStack() as files:
-        if claim.use is Use.CHANGES:
+        if claim.use in (Use.CHANGES, Use.ASKS_ALONE):
             turn = files.enter_context(open(folder / TURN, "ab"))
             patiently(lambda: _take(turn.fileno(), folder), claim)
         file = files.enter_context(open(folder / FILE, "ab"))
@@ -84,7 +85,7 @@ def locked(folder: Path, claim: Claim) -> Iterator[Lock]:
 
 
 def turn_is_taken(folder: Path) -> bool:
-    """Whether a tt changes the archive, or waits to."""
+    """Whether a tt has the archive for itself, or waits to."""
     with open(folder / TURN, "ab") as turn:
         try:
             fcntl.flock(turn, fcntl.LOCK_SH | fcntl.LOCK_NB)

@@ -11,6 +11,7 @@ from . import timeline, tradeoff
 from .errors import ToolError
 from .locks import Use
 from .opening import archive_of
+from .questions import ask, told
 
 
 def draw_timeline(options: argparse.Namespace) -> None:
@@ -27,8 +28,11 @@ def draw_timeline(options: argparse.Namespace) -> None:
 
 
 def draw_tradeoff(options: argparse.Namespace) -> None:
-    with archive_of(options, Use.ASKS) as collection:
-        picture = tradeoff.draw(tradeoff.gather(collection, options.word))
+    with archive_of(options, Use.ASKS_ALONE if options.log else Use.ASKS) as collection:
+        asked = ask(collection, options.log) if options.log else None
+        picture = tradeoff.draw(tradeoff.gather(collection, options.word, asked))
+        if asked:
+            told(collection, asked)
     _write(options.output or _named_after(options.word), picture)
 
 

@@ -47,6 +47,14 @@ def _form(words: str) -> str:
     if not match or (match[1] == "space") != bool(match[3]):
         raise ToolError(f"a plan is `guarantee A/B`, `space A/B uniform` or `space A/B since TIME`{_guess(words)}")
     kind, factor, load = match.groups("")
+    over, under = factor_of(factor)
+    if load.startswith(" since "):
+        load = f" since {parse_time(load.removeprefix(' since '))}"
+    return f"{kind} {over}/{under}{load}"
+
+
+def factor_of(factor: str) -> tuple[int, int]:
+    """A factor as a script has it; 1.5 is 3/2."""
     try:
         ratio = factor if "/" in factor else "%d/%d" % Fraction(factor).as_integer_ratio()
         over, under = map(int, ratio.split("/"))
@@ -54,9 +62,7 @@ def _form(words: str) -> str:
         raise ToolError(f"{factor!r} is no factor: {error}") from None
     if not 1 <= under <= over < 1 << 32:
         raise ToolError(f"{factor!r} is no factor: it is 1 or more, A/B with A and B below 2^32")
-    if load.startswith(" since "):
-        load = f" since {parse_time(load.removeprefix(' since '))}"
-    return f"{kind} {ratio}{load}"
+    return over, under
 
 
 def _guess(words: str) -> str:

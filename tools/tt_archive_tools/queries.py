@@ -11,6 +11,8 @@ from .words import MOST_KEY, key_of, runs
 
 _TOKEN = re.compile(r"[()]|[^ ()]+")
 _OPERATORS = ("and", "or", "not")
+#: A word with a weight from 1 to 1,000.
+_WEIGHTED = re.compile(r"(.*)\^0*(?:[1-9][0-9]{0,2}|1000)\Z", re.DOTALL)
 #: So many `not` and `(` may be open at once.
 _MOST_OPEN = 64
 
@@ -80,6 +82,20 @@ def _width(text: str) -> int:
     return len(text) + wide - sum(unicodedata.category(char) in ("Mn", "Me", "Cf") for char in text)
 
 
+def asked_keys(query: str) -> frozenset[str]:
+    """The keys of all its words, also of those under `not`."""
+    return frozenset(key for token in tokens(query) if token.is_word for key in term_keys(token.text))
+
+
+def term_keys(token: str) -> set[str]:
+    """The key of the word that a token is, without its weight."""
+    found = [key_of(run[0]) for run in runs(token)]
+    weighted = _WEIGHTED.match(token)
+    if len(found) != 1 and weighted:
+        found = [key_of(run[0]) for run in runs(weighted[1])]
+    return set(found)
+
+
 def scoring_keys(query: str) -> frozenset[str]:
     """The keys of the words that stand under an even number of `not`."""
     return frozenset(_Walk(query).either(counts=True))
@@ -109,4 +125,4 @@ class _Walk:
             found = self.either(counts)
             self._tokens[:1] = []
             return found
-        return {key_of(run[0]) for run in runs(token)} if counts else set()
+        return term_keys(token) if counts else set()

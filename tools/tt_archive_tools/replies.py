@@ -29,13 +29,13 @@ class Refused(NamedTuple):
 
     @property
     def item(self) -> int | None:
-        """The item of a batch that is refused, counted from 1; None where the batch is refused as a whole."""
+        """The item of a batch, or the word of shares, that is refused, counted from 1; None where all is refused."""
         words = self.detail.split()
         return int(words[-1]) if words[-2:-1] == ["in"] else None
 
     @property
     def alone(self) -> Refused:
-        """The refusal that the item of a batch has by itself."""
+        """The refusal that the item or the word has by itself."""
         return self if self.item is None else self._replace(detail=" ".join(self.detail.split()[:-2]))
 
     @property
@@ -114,13 +114,30 @@ class Planned(NamedTuple):
     cost: int | None
 
 
+class Share(NamedTuple):
+    """What a word's plan takes of a budget, in its units, and how many postings the questions read of it that were asked."""
+
+    key: str
+    charge: int
+    cost: int
+
+
+class Shares(NamedTuple):
+    """How a budget of so many units, of so many postings each, is best shared."""
+
+    shares: tuple[Share, ...]
+    unit: int
+    budget: int
+    cost: int
+
+
 class Verdict(NamedTuple):
     """What the archive's checker says."""
 
     line: str
 
 
-Reply = Union[Ok, Refused, Rows, Text, Gone, Pieces, Planned, Verdict]
+Reply = Union[Ok, Refused, Rows, Text, Gone, Pieces, Planned, Shares, Verdict]
 
 
 class ReplyReader:
@@ -131,6 +148,7 @@ class ReplyReader:
         self._rows: list[Hit | Span] = []
         self._segments: list[Segment] = []
         self._nodes: list[tuple[int, int]] = []
+        self._shares: list[Share] = []
 
     def replies(self, piece: bytes) -> Iterator[Reply]:
         """The replies that are whole with the next piece."""
@@ -161,7 +179,7 @@ class ReplyReader:
 
     def end(self) -> None:
         """Nothing more will be printed."""
-        if self._rest or self._rows or self._segments or self._nodes:
+        if self._rest or self._rows or self._segments or self._nodes or self._shares:
             raise ProgramFailed("tt_archive's last reply isn't whole")
 
     def _reply(self, words: list[str]) -> Reply | None:
@@ -171,6 +189,11 @@ class ReplyReader:
                 self._segments.append(Segment(int(start), int(end), int(size)))
             case ["node", time, space]:
                 self._nodes.append((int(time), int(space)))
+            case ["share", key, charge, cost]:
+                self._shares.append(Share(key, int(charge), int(cost)))
+            case ["end", _, "unit", unit, "budget", budget, "cost", cost]:
+                shares, self._shares = self._shares, []
+                return Shares(tuple(shares), int(unit), int(budget), int(cost))
             case ["end", _, "read", read]:
                 rows, self._rows = self._rows, []
                 return Rows(tuple(rows), int(read))

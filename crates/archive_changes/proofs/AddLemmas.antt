@@ -102,15 +102,16 @@ leads_change s e body old new a b in_step change same appends pages = record {
 
 pub entry_led : (r : Result ℕ ChangeError) (b : ArchiveState) (old new : DiskState) (s : Store) (e : Entry) (body : List ℕ) (a : ArchiveState)
     → AreInStepBy old a s → IsNoPlan e → body ≡ spelling e → IfOk r (λ _. StandsFor b (s.history ++ e ∷ [])) → Appends (bodies_of s.history) body old new
-    → KeepsPages old new → OnOk r (new.holds.pages ≡ old.holds.pages) → OnOk r (IsInStep new b.end (bodies_of s.history ++ body ∷ [])) → (IsOk r → CacheStands new b)
+    → KeepsPages old new → OnOk r (new.holds.pages ≡ old.holds.pages) → OnOk r (IsInStep new b.end (bodies_of s.history ++ body ∷ [])) → (IsOk r → CacheStands new b) → (IsOk r → b.asked ≡ a.asked)
     → LeadsBy s (with_entry s e s.pages b new) old new × OnOk r (AreInStepBy new b (with_entry s e s.pages b new))
-entry_led r b old new s e body a in_step change same stands appends pages held step cached = (leads_change s e body old new a b in_step change same appends pages, go r stands held step cached)
+entry_led r b old new s e body a in_step change same stands appends pages held step cached unasked = (leads_change s e body old new a b in_step change same appends pages, go r stands held step cached unasked)
   where
-    go : (r : Result ℕ ChangeError) → IfOk r (λ _. StandsFor b (s.history ++ e ∷ [])) → OnOk r (new.holds.pages ≡ old.holds.pages) → OnOk r (IsInStep new b.end (bodies_of s.history ++ body ∷ [])) → (IsOk r → CacheStands new b)
+    go : (r : Result ℕ ChangeError) → IfOk r (λ _. StandsFor b (s.history ++ e ∷ [])) → OnOk r (new.holds.pages ≡ old.holds.pages) → OnOk r (IsInStep new b.end (bodies_of s.history ++ body ∷ [])) → (IsOk r → CacheStands new b) → (IsOk r → b.asked ≡ a.asked)
         → OnOk r (AreInStepBy new b (with_entry s e s.pages b new))
-    go (Ok n) stands held step cached =
+    go (Ok n) stands held step cached unasked =
         record {
           stands = stands;
+          asked_are = unasked refl ∙ in_step.asked_are;
           journal = rw (← bodies_more s.history e body same) step;
           pages_are = held ∙ in_step.pages_are;
           kept_are = refl;
@@ -119,15 +120,19 @@ entry_led r b old new s e body a in_step change same stands appends pages held s
           same = λ image allowed. subst (λ (l : List StoredPlan). All (HasSame s.pages image.pages) (extents_all l)) (sym (same_live s.history e change)) (pages_keep s old new in_step.same pages image allowed);
           cached = cached refl;
         }
-    go (Err error) stands held step cached = tt
+    go (Err error) stands held step cached unasked = tt
 
 pub adds_by : (r : Result ℕ ChangeError) (a b : ArchiveState) (old new : DiskState) (s : Store) (e : Entry) (x : Change ℕ) (body : List ℕ) (words : Words)
     → AreInStepBy old a s → IsNext s.history e x body → IsPreparedFor a.index (document_of e) (text_of e) words → IfOk r (λ n. IsMore a b x body words × (n ≡ b.length)) → Appends (bodies_of s.history) body old new
     → KeepsPages old new → OnOk r (new.holds.pages ≡ old.holds.pages) → OnOk r (IsInStep new b.end (bodies_of s.history ++ body ∷ [])) → (IsOk r → CacheStands new b)
     → LeadsBy s (with_entry s e s.pages b new) old new × OnOk r (AreInStepBy new b (with_entry s e s.pages b new))
 adds_by r a b old new s e x body words in_step next prepared more appends pages held step cached =
-    entry_led r b old new s e body a in_step (change_comes s.history e x in_step.stands.loadable next.legal.allowed next.makes).0 next.spelled (go r more) appends pages held step cached
+    entry_led r b old new s e body a in_step (change_comes s.history e x in_step.stands.loadable next.legal.allowed next.makes).0 next.spelled (go r more) appends pages held step cached (asked r more)
   where
     go : (r : Result ℕ ChangeError) → IfOk r (λ n. IsMore a b x body words × (n ≡ b.length)) → IfOk r (λ _. StandsFor b (s.history ++ e ∷ []))
     go (Ok n) more = stands_more a b s.history e x body words in_step.stands next prepared more.0
     go (Err error) more = tt
+
+    asked : (r : Result ℕ ChangeError) → IfOk r (λ n. IsMore a b x body words × (n ≡ b.length)) → IsOk r → b.asked ≡ a.asked
+    asked (Ok n) more ok = more.0.asked_is
+    asked (Err error) more ok = absurd cc

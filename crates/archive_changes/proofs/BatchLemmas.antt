@@ -108,7 +108,7 @@ on_whole (Err error) X is = tt
 
 -- an archive that is spent has what it had
 pub spent_but : (a : ArchiveState) → IsSpentBut a (record a { live = false })
-spent_but a = record { end_is = refl; length_is = refl; changes_are = refl; shelf_is = record { plans_are = refl; taken = λ es has. has; cache_is = refl }; marked_is = refl; live_is = refl }
+spent_but a = record { end_is = refl; length_is = refl; changes_are = refl; shelf_is = record { plans_are = refl; taken = λ es has. has; cache_is = refl }; marked_is = refl; asked_is = refl; live_is = refl }
 
 -- where a batch was declined, nothing was called
 pub declined_after : (tells X : Type 0) (why : BatchDeclined) (error : BatchError) (a b : ArchiveState) (d : DiskState) → X → IsTrue a.live → Reaches d.reach a → GivesUpAll why error a b
@@ -149,7 +149,7 @@ pub refused_by : (s : Store) (item : Item) (reply : Reply) (old : DiskState) (a 
 refused_by s item reply old a b in_step same step = (
   with_reads s b old,
   record { step = step; leads = keeps_leads s (with_reads s b old) old old (keeps_nowhere old a s in_step); still = λ none. (refl, refl) },
-  still_by old a b s in_step (rw same in_step.stands) (rw same in_step.cached),
+  still_by old a b s in_step (rw same in_step.stands) (ap (λ (x : ArchiveState). x.asked) same) (rw same in_step.cached),
 )
 
 -- a batch that comes behind the history as an entry, or is refused

@@ -44,7 +44,7 @@ entry_by s item e refusal (Err error) old new a b change step in_step adds same 
     (λ why is.
     let (was, still) = same why (ap Err is) in
     let refused = subst (λ (o : Option Refusal). machine.Adds s.history e o (Refused why) s.history) (sym (adds.refused why (ap Err is))) (refl, refl) in
-    (still, step (Refused why) (with_reads s b old) refused (stocks_same s b old in_step.live), still_by old a b s in_step (rw was in_step.stands) (rw was in_step.cached)))
+    (still, step (Refused why) (with_reads s b old) refused (stocks_same s b old in_step.live), still_by old a b s in_step (rw was in_step.stands) (ap (λ (x : ArchiveState). x.asked) was) (rw was in_step.cached)))
     (λ is.
     let added = subst (λ (o : Option Refusal). machine.Adds s.history e o (Accepted (length next.history)) next.history) (sym (adds.allowed (inr (ap Err is)))) (refl, refl) in
     inr (Accepted (length next.history), next, record { step = step (Accepted (length next.history)) next added (stocks_change s e b new change in_step.live); leads = leads; still = λ none. absurd none }))

@@ -59,6 +59,7 @@ keeps_reads old new a s in_step same =
 pub reads_by : (s : Store) (old new : DiskState) (a b : ArchiveState) → AreInStepBy old a s → OnlyReads old new → IsSameButCache a b → CacheStands new b → AreInStepBy new b (with_reads s b new)
 reads_by s old new a b in_step same but cached = record {
   stands = stands_but_cache a b s.history but in_step.stands;
+  asked_are = ap (λ (x : ArchiveState). x.asked) but ∙ in_step.asked_are;
   journal = subst (λ (x : ArchiveState). IsInStep new x.end (bodies_of s.history)) (sym but) (step_reads old new a.end (bodies_of s.history) in_step.journal same);
   pages_are = ap (λ (d : DiskState). d.holds.pages) same ∙ in_step.pages_are;
   kept_are = refl;
@@ -69,9 +70,10 @@ reads_by s old new a b in_step same but cached = record {
 }
 
 -- an archive that goes on standing for a history on the same disk
-pub still_by : (d : DiskState) (a b : ArchiveState) (s : Store) → AreInStepBy d a s → StandsFor b s.history → CacheStands d b → AreInStepBy d b (with_reads s b d)
-still_by d a b s was stands cached = record {
+pub still_by : (d : DiskState) (a b : ArchiveState) (s : Store) → AreInStepBy d a s → StandsFor b s.history → b.asked ≡ a.asked → CacheStands d b → AreInStepBy d b (with_reads s b d)
+still_by d a b s was stands unasked cached = record {
   stands = stands;
+  asked_are = unasked ∙ was.asked_are;
   journal = step_at (stands.end_is ∙ sym was.stands.end_is) was.journal;
   pages_are = was.pages_are;
   kept_are = refl;
@@ -107,10 +109,10 @@ no_longer : (h : History) (plan : PlanEntry) → h ≡ h ++ Planned plan ∷ [] 
 no_longer h plan same = omega (arith, ap length same, length_push h (Planned plan))
 
 pub stocks_none : (s : Store) → AreLive (live_extents s.history) (length s.pages) → Stocks s s
-stocks_none s live = record { same = all_same s.pages (live_extents s.history) live.0; apart = live.1; held = λ plan same. absurd (no_longer s.history plan same) }
+stocks_none s live = record { same = all_same s.pages (live_extents s.history) live.0; apart = live.1; held = λ plan same. absurd (no_longer s.history plan same); asked = refl }
 
 pub stocks_same : (s : Store) (a : ArchiveState) (d : DiskState) → AreLive (live_extents s.history) (length s.pages) → Stocks s (with_reads s a d)
-stocks_same s a d live = record { same = all_same s.pages (live_extents s.history) live.0; apart = live.1; held = λ plan same. absurd (no_longer s.history plan same) }
+stocks_same s a d live = record { same = all_same s.pages (live_extents s.history) live.0; apart = live.1; held = λ plan same. absurd (no_longer s.history plan same); asked = refl }
 
 pub one_entry : (h : History) (e f : Entry) → h ++ e ∷ [] ≡ h ++ f ∷ [] → e ≡ f
 one_entry [] e f same = cc
@@ -121,4 +123,5 @@ stocks_change s e a d change live = record {
   same = all_same s.pages (live_extents s.history) live.0;
   apart = subst (λ (l : List StoredPlan). AreApart (extents_all l)) (sym (same_live s.history e change)) live.1;
   held = λ plan same. absurd (subst IsNoPlan (one_entry s.history e (Planned plan) same) change);
+  asked = refl;
 }

@@ -1,5 +1,5 @@
 -- What is known of a change, or a plan, that was given up.
-use Rattle.std.proofs.Common.{◌≡◌, ◌⊎◌, Result, Err, IsOk, inl, inr, refl, subst}
+use Rattle.std.proofs.Common.{◌≡◌, ◌⊎◌, Result, Err, IsOk, ap, inl, inr, refl, subst}
 use Rattle.machine_model.specs.States.{DiskState}
 use Rattle.model_archive.specs.declared.refusal.Refusal.{Refusal}
 use Rattle.archive_hand.specs.States.{ArchiveState, CacheStands}
@@ -19,6 +19,11 @@ given_up_never Q declines.Memory error a b gives (inr failed) = let one = gives.
 pub given_up_cached : (why : Declined) (error : ChangeError) (a b : ArchiveState) (d : DiskState) → GivesUp why error a b → CacheStands d a → CacheStands d b
 given_up_cached (declines.Refused because) error a b d gives cached = rw gives.1 cached
 given_up_cached declines.Memory error a b d gives cached = rw gives.1 cached
+
+-- nothing more is asked
+pub given_up_asked : (why : Declined) (error : ChangeError) (a b : ArchiveState) → GivesUp why error a b → b.asked ≡ a.asked
+given_up_asked (declines.Refused because) error a b gives = ap (λ (x : ArchiveState). x.asked) gives.1
+given_up_asked declines.Memory error a b gives = ap (λ (x : ArchiveState). x.asked) gives.1
 
 -- and a refusal is the one that was handed on, and changes nothing
 pub given_up_refused : {T U : Type 0} (P : Refusal → ArchiveState → Type 0) (why : Declined) (error : ChangeError) (a b : ArchiveState) (because : Refusal) → GivesUp why error a b

@@ -64,7 +64,7 @@ pages_reads a b c keeps same =
 -- the archive of what was gone over
 pub stands_replayed : (h : History) (live : Bool) (heads : List Head) (changes : List (Change TextPlace)) (index : IndexState) (plans : List StoredPlan) (shelf : ShelfState) (end : ℕ) (marked : Bool)
     → end ≡ end_of h → length heads ≡ length h → IsReplayed h heads changes plans → Indexes index (histories.changes h) → shelf.plans ≡ plans → HasTaken shelf.pages (extents_all plans) → marked ≡ histories.is_marked h
-    → StandsFor (record { end = end; live = live; length = length heads; changes = changes; index = index; shelf = shelf; marked = marked }) h
+    → StandsFor (record { end = end; live = live; length = length heads; changes = changes; index = index; shelf = shelf; marked = marked; asked = [] }) h
 stands_replayed h live heads changes index plans shelf end marked at many replayed indexed same taken mark = record {
   loadable = replayed.loadable;
   end_is = at;
@@ -105,16 +105,17 @@ lie_well h d a stands reaches same =
 -- after a load each image has the pages that reads give, or the archive has no live place
 pub loaded_by : (a : ArchiveState) (mid new : DiskState) (old : Bytes) (end : ℕ) (bodies : List (List ℕ)) (h : History)
     → StandsFor a h → a.shelf.cache ≡ [] → a.end ≡ end → bodies_of h ≡ bodies → Spells old.journal bodies → IsInStep mid end bodies → OnlyReads mid new → (17 < length old.journal → Only mid.holds mid) → mid.holds.pages ≡ old.pages
-    → Reaches new.reach a → length new.holds.pages ≡ new.reach.pages
-    → (s : Store) × (AreInStepBy new a s × Spells old.journal (bodies_of s.history) × (s.pages ≡ old.pages))
-loaded_by a mid new old end bodies h stands empty end_is same spelled step reads one pages reach long =
+    → Reaches new.reach a → length new.holds.pages ≡ new.reach.pages → a.asked ≡ []
+    → (s : Store) × (AreInStepBy new a s × Spells old.journal (bodies_of s.history) × (s.pages ≡ old.pages) × (s.asked ≡ []))
+loaded_by a mid new old end bodies h stands empty end_is same spelled step reads one pages reach long unasked =
     let there : Spells old.journal (bodies_of h) = subst (λ (l : List (List ℕ)). Spells old.journal l) (sym same) spelled in
     let read : new.holds.pages ≡ old.pages = ap (λ (d : DiskState). d.holds.pages) reads ∙ pages in
     let live : AreLive (live_extents h) (length old.pages) = rw read at (lie_well h new a stands reach long) in (
-      record { history = h; pages = old.pages; kept = a.shelf.cache; read = new.bytes_read.pages },
+      record { history = h; asked = []; pages = old.pages; kept = a.shelf.cache; read = new.bytes_read.pages },
       (
         record {
           stands = stands;
+          asked_are = unasked;
           journal = subst (λ (l : List (List ℕ)). IsInStep new a.end l) (sym same) (subst (λ (n : ℕ). IsInStep new n bodies) (sym end_is) (step_reads mid new end bodies step reads));
           pages_are = read;
           kept_are = refl;
@@ -129,6 +130,7 @@ loaded_by a mid new old end bodies h stands empty end_is same spelled step reads
           cached = none_cached new a empty;
         },
         there,
+        refl,
         refl,
       ),
     )

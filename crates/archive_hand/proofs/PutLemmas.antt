@@ -143,6 +143,7 @@ put_there s plan prepared frame pages old new a b in_step ready put =
             let is : plan ≡ other = cc in
             subst (λ (p : PlanEntry). HoldsPlan (s.history ++ Planned plan ∷ []) pages p) is (plan_held s.history plan prepared frame pages ready put.each)
             );
+        asked = refl;
       };
       leads = record {
         goes_on = put.goes_on;

@@ -27,6 +27,7 @@ pub record IsMore (old new : ArchiveState) (change : Change ℕ) (body : List �
   pub changes_are : new.changes ≡ old.changes ++ record { doc = change.doc; at = change.at; held = held } ∷ []
   pub shelf_is : new.shelf ≡ old.shelf
   pub marked_is : new.marked ≡ old.marked
+  pub asked_is : new.asked ≡ old.asked
   pub indexed : (texts : List (Change (List ℕ))) (doc : DocId) (text : Option (List ℕ)) → Indexes old.index texts
       → IsPreparedFor old.index doc text words
       → ComesLater texts (record { doc = doc; at = change.at; held = text })
@@ -46,6 +47,7 @@ pub record IsSpent (old new : ArchiveState) : Type 0 where
   pub index_is : seen new.index ≡ seen old.index
   pub shelf_is : HasSameShelf old.shelf new.shelf
   pub marked_is : new.marked ≡ old.marked
+  pub asked_is : new.asked ≡ old.asked
   pub live_is : new.live ≡ false
 
 -- An archive that is spent within a batch has what it had but for what it tells of words, and may be changed no more.
@@ -55,6 +57,7 @@ pub record IsSpentBut (old new : ArchiveState) : Type 0 where
   pub changes_are : new.changes ≡ old.changes
   pub shelf_is : HasSameShelf old.shelf new.shelf
   pub marked_is : new.marked ≡ old.marked
+  pub asked_is : new.asked ≡ old.asked
   pub live_is : new.live ≡ false
 
 -- a change was made or refused, and so the archive isn't spent

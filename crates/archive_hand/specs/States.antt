@@ -19,10 +19,13 @@ use Rattle.lists_index.specs.Indexes.{IndexState, Indexes}
 use Rattle.archive_entries.specs.Places.{ArePlaced}
 use Rattle.archive_plans.specs.Shelves.{ShelfState, extents_all}
 use Rattle.model_archive.specs.Stands.{bodies_of}
-use Rattle.archive_hand.specs.Stored.{Store, HasSame}
+use Rattle.model_archive.specs.Worlds.{World}
+use Rattle.plans_share.specs.declared.asked.Asking.{Asking}
+use Rattle.archive_hand.specs.Stored.{Store, HasSame, world_by}
 
 -- an open archive: where its journal ends, whether it may be changed, how many entries it has, the changes of documents with
--- the places of the texts, the index of the texts, the live plans with the free pages and the pages that are kept, and whether it has the mark
+-- the places of the texts, the index of the texts, the live plans with the free pages and the pages that are kept, whether it has the mark, and what it
+-- was asked
 pub record ArchiveState : Type 0 where
   pub end : ℕ
   pub live : Bool
@@ -31,6 +34,7 @@ pub record ArchiveState : Type 0 where
   pub index : IndexState
   pub shelf : ShelfState
   pub marked : Bool
+  pub asked : List Asking
 
 -- an open archive stands for a history
 pub record StandsFor (archive : ArchiveState) (history : History) : Type 0 where
@@ -72,6 +76,7 @@ IsSameButCache old new = new ≡ record old { shelf = record (old.shelf) { cache
 -- what a disk is that an open archive may change, by what reads give, whatever lies in Pages: all images have the history's journal, and in each live place the bytes that reads give
 pub record AreInStepBy (d : DiskState) (archive : ArchiveState) (store : Store) : Type 0 where
   pub stands : StandsFor archive store.history
+  pub asked_are : archive.asked ≡ store.asked
   pub journal : IsInStep d archive.end (bodies_of store.history)
   pub pages_are : d.holds.pages ≡ store.pages
   pub kept_are : archive.shelf.cache ≡ store.kept
@@ -80,17 +85,18 @@ pub record AreInStepBy (d : DiskState) (archive : ArchiveState) (store : Store) 
   pub same : (image : Bytes) → MayLeave d.now image → All (HasSame store.pages image.pages) (live_extents store.history)
   pub cached : CacheStands d archive
 
--- and an open archive and its disk are in step with a history: the pages hold what its live plans need
-pub record AreInStep (d : DiskState) (archive : ArchiveState) (history : History) : Type 0 where
+-- and an open archive and its disk are in step with a state of the abstract archive: the pages hold what its live plans need
+pub record AreInStep (d : DiskState) (archive : ArchiveState) (world : World) : Type 0 where
   pub store : Store
-  pub history_is : store.history ≡ history
+  pub world_is : world_by store ≡ world
   pub by_reads : AreInStepBy d archive store
-  pub held : HoldsPlans history store.pages
+  pub held : HoldsPlans world.history store.pages
 
 -- what is stored with an entry more, in these pages, by the archive and its disk then
 abbrev pub with_entry : Store → Entry → List ℕ → ArchiveState → DiskState → Store
 with_entry store entry pages archive d = record {
   history = store.history ++ entry ∷ [];
+  asked = store.asked;
   pages = pages;
   kept = archive.shelf.cache;
   read = d.bytes_read.pages;

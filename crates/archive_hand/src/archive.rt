@@ -1,5 +1,5 @@
 //! The open archive, and what it is asked that keeps it consistent.
-ghost use Rattle.std.specs.Prelude.{◌≡◌, ◌+◌, ◌<◌, ◌≤◌, length, get_or, Some, Ok, Err, IfOk, IfErr, OnOk};
+ghost use Rattle.std.specs.Prelude.{◌≡◌, ◌+◌, ◌<◌, ◌≤◌, [], length, get_or, Some, Ok, Err, IfOk, IfErr, IsErr, OnOk};
 ghost use Rattle.journal_gates.specs.Records.{new_bytes};
 ghost use Rattle.machine_model.specs.Calls.{OnlyReads};
 ghost use Rattle.pages_sublists.specs.Fetching.{IfDamaged, IfFailed};
@@ -10,18 +10,21 @@ ghost use Rattle.model_archive.specs.Histories.{History};
 ghost use Rattle.archive_hand.specs.Asking.{HasAsked};
 ghost use Rattle.archive_hand.specs.States.{StandsFor, StandsBut, CacheStands, IsSameButCache, Reaches};
 ghost use Rattle.archive_hand.specs.Adding.{GivesUp};
+ghost use Rattle.archive_plans.specs.Framing.{AreInTurn, IsFramedAt, IsUnframedAt};
 ghost use Rattle.lists_index.specs.Indexes.{state_of};
+ghost use Rattle.plans_share.specs.Asked.{noted_all};
 
 use crate::error::ChangeError;
 use archive_entries::Declined;
-use archive_plans::Shelf;
-use base_types::Span;
+use archive_plans::{SegmentFrames, Shelf};
+use base_types::{Key, Span, Time};
 use journal_gates::Journal;
 use lists_index::Index;
 use lists_versions::Directory;
 use machine_model::Disk;
 use pages_sublists::{FetchError, Gathered};
-use std::alloc::Global;
+use plans_share::Asked;
+use std::alloc::{AllocError, Global};
 use std::marker::Model;
 
 /// An open archive.
@@ -33,6 +36,7 @@ pub struct Archive {
     pub(crate) shelf: Shelf,
     pub(crate) entries: u64,
     pub(crate) marked: bool,
+    pub(crate) asked: Asked,
     pub(crate) live: bool,
 }
 
@@ -52,6 +56,7 @@ impl Model for Archive {
       index = state_of a.index;
       shelf = a.shelf;
       marked = a.marked;
+      asked = a.asked;
     } };
 
     // It stands for a history, which it shows on any disk; one that is spent within a batch but for what it tells of words.
@@ -64,13 +69,15 @@ impl Model for Archive {
           index = state_of a.index;
           shelf = a.shelf;
           marked = a.marked;
+          asked = a.asked;
         }) };
 }
 
 impl Archive {
-    // The archive of a journal, by the changes of its entries, the index of their texts, the live plans, and whether
+    // The archive of a journal that was asked nothing yet, by the changes of its entries, the index of their texts, the live plans, and whether
     // the mark is among the entries. It is live where the journal is.
     pub(crate) fn of(
+        alloc: Global,
         journal: Journal,
         directory: Directory,
         index: Index,
@@ -88,6 +95,7 @@ impl Archive {
               index = state_of index;
               shelf = shelf;
               marked = marked;
+              asked = [];
             }) h }
         ensures { result ≡ record {
           end = journal.end;
@@ -97,6 +105,7 @@ impl Archive {
           index = state_of index;
           shelf = shelf;
           marked = marked;
+          asked = [];
         } }
     {
         let live = journal.is_live();
@@ -107,6 +116,7 @@ impl Archive {
             shelf,
             entries,
             marked,
+            asked: Asked::new(alloc),
             live,
         }
     }
@@ -161,6 +171,55 @@ impl Archive {
         ensures stands { (h : History) × StandsBut self.now h }
     {
         &self.shelf
+    }
+
+    /// The headers of the blocks of the segment that has a time, of the plan that stands at this place, whose
+    /// sublists are in blocks; None where no segment has the time. Nothing is changed but which pages are kept.
+    ///
+    /// `Damaged`: the place's bytes haven't the digest that the entry of the plan says, or no headers. `Failed`:
+    /// the disk failed. `Memory`: an allocation failed. Costs what `Shelf::frames_at` does.
+    pub fn frames_at<D: Disk>(
+        &mut self,
+        alloc: Global,
+        disk: &mut D,
+        place: usize,
+        t: Time,
+    ) -> Result<Option<SegmentFrames>, FetchError>
+        requires within { Reaches (D.disk disk.old).reach self.old }
+        requires there { place < length self.old.shelf.plans }
+        ensures only { D.Disk.only disk.old disk.new }
+        ensures failed { IfErr result (IfFailed (Rose (D.disk disk.old).faults (D.disk disk.new).faults)) }
+        ensures same { OnlyReads (D.disk disk.old) (D.disk disk.new) }
+        ensures but_cache { IsSameButCache self.old self.new }
+        ensures cached { D.disk_tells → CacheStands (D.disk disk.old) self.old → CacheStands (D.disk disk.new) self.new }
+        ensures asked { D.disk_tells → CacheStands (D.disk disk.old) self.old → (s : PlainStored)
+            → s ≡ get_or self.old.shelf.plans place s → AreInTurn s.plan →
+            OnOk result (HasAsked (pieces_chosen (D.disk disk.old).holds.pages (Some s.plan) t.seconds (t.seconds + 1)) self.old.shelf.cache
+            self.new.shelf.cache (D.disk disk.old) (D.disk disk.new)) }
+        ensures framed { D.disk_tells → CacheStands (D.disk disk.old) self.old → (s : PlainStored)
+            → s ≡ get_or self.old.shelf.plans place s → AreInTurn s.plan
+            → IfOk result (IsFramedAt (D.disk disk.old).holds.pages s.plan t.seconds) }
+        ensures damaged { D.disk_tells → CacheStands (D.disk disk.old) self.old → (s : PlainStored)
+            → s ≡ get_or self.old.shelf.plans place s → AreInTurn s.plan
+            → IfErr result (IfDamaged (IsUnframedAt (D.disk disk.old).holds.pages s.plan t.seconds)) }
+    {
+        self.shelf.frames_at(alloc, disk, place, t)
+    }
+
+    /// What it was asked for, as far as it is noted. Constant cost.
+    pub fn asked(&self) -> &Asked
+        ensures { result.now ≡ self.now.asked }
+    {
+        &self.asked
+    }
+
+    /// Notes that some words were asked for as of a time. An error leaves all as it was. Costs the words'
+    /// length.
+    pub fn note(&mut self, alloc: Global, words: &[Key], at: Time) -> Result<(), AllocError>
+        ensures noted { OnOk result (self.new ≡ record self.old { asked = noted_all self.old.asked words.now at }) }
+        ensures kept { IsErr result → self.new ≡ self.old }
+    {
+        self.asked.note_all(alloc, words, at)
     }
 
     /// What Pages have in a window of the list of the plan that stands at this place. Nothing is changed

@@ -9,6 +9,7 @@ ghost use Rattle.journal_gates.specs.Spelled.{EachSpells, Spells};
 ghost use Rattle.journal_gates.specs.Crash.{KeepsBodies, KeepsPages};
 ghost use Rattle.model_archive.specs.Histories.{History};
 ghost use Rattle.model_archive.specs.Stands.{Stands, EachStands, IsNotArchive, bodies_of};
+ghost use Rattle.model_archive.specs.Worlds.{world_of};
 ghost use Rattle.archive_hand.specs.States.{StandsFor, AreInStep, AreInStepBy, Reaches};
 ghost use Rattle.archive_hand.specs.Changing.{KeepsHistory};
 ghost use Rattle.archive_hand.specs.Stored.{Store};
@@ -38,6 +39,7 @@ impl Archive {
         // On any disk: it is live, keeps no page yet, the disk reaches as far as its journal, and it stands for a history.
         ensures live { IfOk result (λ a. IsTrue a.live) }
         ensures empty { IfOk result (λ a. a.shelf.cache ≡ []) }
+        ensures unasked { IfOk result (λ a. a.asked ≡ []) }
         ensures within { IfOk result (λ a. Reaches (D.disk disk.new).reach a) }
         ensures stands { IfOk result (λ a. (h : History) × StandsFor a h) }
         // What it answers of the bytes that reads gave at the start; where they stand for a history, it is the one loaded.
@@ -48,9 +50,9 @@ impl Archive {
         ensures by_reads { D.disk_tells
             → IfOk result (λ a. (s : Store)
             × (AreInStepBy (D.disk disk.new) a s × Spells (D.disk disk.old).holds.journal (bodies_of s.history)
-            × (s.pages ≡ (D.disk disk.old).holds.pages))) }
+            × (s.pages ≡ (D.disk disk.old).holds.pages) × (s.asked ≡ []))) }
         ensures in_step { D.disk_tells → (h : History) → Stands h (D.disk disk.old).holds
-            → IfOk result (λ a. AreInStep (D.disk disk.new) a h) }
+            → IfOk result (λ a. AreInStep (D.disk disk.new) a (world_of h)) }
         ensures exact { D.disk_tells → OnOk result ((at : ℕ) → IsNotArchive (D.disk disk.old).holds at → ⊥) }
         // Where each image stands for one history, each image left since stands for it.
         ensures crash { D.disk_tells → (h : History) → EachStands (D.disk disk.old) h → KeepsHistory h (D.disk disk.old) (D.disk disk.new) }
@@ -86,6 +88,7 @@ fn archive_of<D: Disk>(
     ensures unread { D.disk_tells → (D.disk disk.new).bytes_read.pages ≡ (D.disk disk.old).bytes_read.pages }
     ensures live { IfOk result (λ a. a.live ≡ journal.live) }
     ensures empty { IfOk result (λ a. a.shelf.cache ≡ []) }
+    ensures unasked { IfOk result (λ a. a.asked ≡ []) }
     ensures end { IfOk result (λ a. a.end ≡ journal.end) }
     ensures within { IfOk result (λ a. Reaches (D.disk disk.new).reach a) }
     ensures stands { IfOk result (λ a. (h : History) × StandsFor a h) }
@@ -111,5 +114,13 @@ fn archive_of<D: Disk>(
     } = replayed;
     let reach = disk.length(Area::Pages)?;
     let shelf = Shelf::of(alloc, plans, reach)?;
-    Ok(Archive::of(journal, directory, index, shelf, heads.len() as u64, marked))
+    Ok(Archive::of(
+        alloc,
+        journal,
+        directory,
+        index,
+        shelf,
+        heads.len() as u64,
+        marked,
+    ))
 }

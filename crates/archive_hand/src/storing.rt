@@ -57,6 +57,7 @@ impl Archive {
         ensures memory { IsErrOf result ChangeError.Memory → disk.new ≡ disk.old }
         ensures cached { D.disk_tells → CacheStands (D.disk disk.old) self.old → IsDone result → CacheStands (D.disk disk.new) self.new }
         ensures spent { (IsErrOf result ChangeError.Memory ⊎ IsErrOf result ChangeError.Failed) → IsSpent self.old self.new }
+        ensures unasked { self.new.asked ≡ self.old.asked }
         ensures refused { (h : History) → StandsFor self.old h → (why : Refusal) → IsErrOf result (ChangeError.Refused why)
             → IsFull draft (live_extents h) self.old.end why × StandsFor self.new h }
         ensures stores { (h : History) → StandsFor self.old h

@@ -1,3 +1,4 @@
 pub mod ShelfLemmas
 mod ReadyLemmas
 pub mod BadLemmas
+pub mod SegmentLemmas

@@ -1,2 +1,4 @@
+pub mod Framing
+pub mod Segments
 pub mod Shelves
 pub mod Readying

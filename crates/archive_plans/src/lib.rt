@@ -7,8 +7,11 @@
 //! (`specs/Readying.antt`); all memory is taken then. Nothing here writes.
 #![tactic(auto)]
 
+mod framing;
 mod readying;
+mod segment;
 mod shelf;
 
+pub use framing::SegmentFrames;
 pub use readying::{Draft, Ready, make_ready};
 pub use shelf::Shelf;

@@ -36,8 +36,8 @@ use std::marker::Model;
 /// that were read and are kept.
 #[derive(Drop)]
 pub struct Shelf {
-    plans: Vec<StoredPlan>,
-    sublists: Sublists,
+    pub(crate) plans: Vec<StoredPlan>,
+    pub(crate) sublists: Sublists,
 }
 
 impl Model for Shelf {

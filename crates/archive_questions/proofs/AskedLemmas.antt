@@ -31,17 +31,20 @@ use Rattle.model_archive.specs.Rough.{IsMadeRough}
 use Rattle.model_archive.specs.Steps.{Reply, Refused, Found, Spanned, Neared}
 use Rattle.archive_entries.specs.declared.error.Declined.{Declined}
 use Rattle.archive_entries.specs.declared.error.Declined.TheVariants as declines
-use Rattle.archive_questions.specs.After.{AfterFetching, AfterQuestion, Fetches}
+use Rattle.archive_questions.specs.After.{AfterFetching, AfterNoted, AfterQuestion, Fetches, IsNoted}
 use Rattle.archive_hand.specs.Asking.{HasAsked}
 use Rattle.archive_questions.specs.Answering.{IsAnswerTo, IsNoQuery, IsWantedAt}
 use Rattle.archive_questions.specs.Causes.{ask_error_of_query, asked_of}
 use Rattle.archive_hand.specs.States.{ArchiveState, AreInStepBy, with_reads}
-use Rattle.archive_hand.specs.Stored.{Store, Answers, MakesAt, MakesOver, MakesRough, MakesTop, Spoils, StoreStep, asking}
+use Rattle.archive_hand.specs.Stored.{Store, Answers, MakesOver, MakesRough, MakesTop, Spoils, StoreStep, asking}
 use Rattle.archive_hand.specs.Takes.{TakesBy}
-use Rattle.archive_questions.specs.Endings.{answered, found, neared, spanned}
+use Rattle.archive_questions.specs.Endings.{answered, found, neared, spanned, unanswered}
 use Rattle.archive_questions.specs.declared.approximating.RoughAnswer.{RoughAnswer}
 use Rattle.archive_questions.specs.declared.error.AskError.{AskError}
 use Rattle.archive_questions.specs.declared.error.AskError.TheVariants as asks
+use Rattle.plans_share.specs.Asked.{noted_all}
+use Rattle.plans_share.specs.declared.asked.Asking.{Asking}
+use Rattle.archive_hand.proofs.ByReadsLemmas.{keeps_leads, keeps_reads, reads_by}
 use Rattle.archive_questions.proofs.TakeLemmas.{IsAnsweredBy, no_reads, question_by}
 
 -- where there is no answer, and nothing was asked for
@@ -131,7 +134,7 @@ after_weaker {T} tells phrase from to IsMade IsSo r d e x y so after = record {
 -- ---- by what reads give
 
 -- what was asked for a query, as the store that it leaves
-asked_of_query : (s : Store) (d e : DiskState) (x y : ArchiveState) (pieces : List Kept) → AreInStepBy d x s → HasAsked pieces x.shelf.cache y.shelf.cache d e → with_reads s y e ≡ asking s pieces
+pub asked_of_query : (s : Store) (d e : DiskState) (x y : ArchiveState) (pieces : List Kept) → AreInStepBy d x s → HasAsked pieces x.shelf.cache y.shelf.cache d e → with_reads s y e ≡ asking s pieces
 asked_of_query s d e x y pieces in_step has =
     let count : e.bytes_read.pages ≡ d.bytes_read.pages + missed_by_all pieces x.shelf.cache = ap (λ (b : Both ℕ). b.pages) has.count in
     let read : e.bytes_read.pages ≡ s.read + missed_by_all pieces s.kept = rw (in_step.kept_are, in_step.read_is) at count in
@@ -163,13 +166,83 @@ query_by {T} {tells} Makes s item phrase from to IsMade reply r d e x y told ste
     go (Err asks.Failed) after = tt
     go (Err asks.Memory) after = tt
 
-pub find_by : {tells : Type 0} (s : Store) (at : Time) (phrase : List ℕ) (r : Result Answer AskError) (d e : DiskState) (x y : ArchiveState) → tells → AreInStepBy d x s
-    → AfterQuestion tells phrase at.seconds (at.seconds + 1) (λ h query answer. IsMadeAt h d.holds.pages at.seconds query answer.rows.items answer.read) r d e x y
-    → TakesBy s (items.Command (commands.Find at phrase)) (found r) d e y
-find_by s at phrase r d e x y told in_step after =
-    query_by (λ pages. MakesAt (record s { pages = pages }) at) s (items.Command (commands.Find at phrase)) phrase at.seconds (at.seconds + 1)
-    (λ h query answer. IsMadeAt h d.holds.pages at.seconds query answer.rows.items answer.read) (λ (answer : Answer). Found answer.rows.items answer.read) r d e x y told (λ one next is. is) (λ damage is. is)
-    (λ query answer made. (answer.rows.items, answer.read, made, refl)) in_step after
+-- a query that is noted is a step, with the cache that it leaves and its words noted
+noted_by : (d : DiskState) (a : ArchiveState) (s : Store) (words : List (List ℕ)) (at : Time) → AreInStepBy d a s → AreInStepBy d (record a { asked = noted_all a.asked words at }) (record s { asked = noted_all s.asked words at })
+noted_by d a s words at in_step = record {
+  stands = (let stands = in_step.stands in record {
+    loadable = stands.loadable;
+    end_is = stands.end_is;
+    length_is = stands.length_is;
+    changes_are = stands.changes_are;
+    index_is = stands.index_is;
+    plans_are = stands.plans_are;
+    pages_are = stands.pages_are;
+    marked_is = stands.marked_is;
+  });
+  asked_are = ap (λ (asked : List Asking). noted_all asked words at) in_step.asked_are;
+  journal = in_step.journal;
+  pages_are = in_step.pages_are;
+  kept_are = in_step.kept_are;
+  read_is = in_step.read_is;
+  live = in_step.live;
+  same = in_step.same;
+  cached = in_step.cached;
+}
+
+pub find_by : {tells : Type 0} (s : Store) (at : Time) (phrase : List ℕ) (r : Result Answer AskError) (d e : DiskState) (x z : ArchiveState) → tells → AreInStepBy d x s
+    → AfterNoted tells phrase at (λ h query answer. IsMadeAt h d.holds.pages at.seconds query answer.rows.items answer.read) r d e x z
+    → TakesBy s (items.Command (commands.Find at phrase)) (found r) d e z
+find_by {tells} s at phrase r d e x z told in_step noted = go r noted.after noted.noted
+  where
+    y : ArchiveState
+    y = noted.answered
+
+    IsMade : History → Query → Answer → Type 0
+    IsMade h query answer = IsMadeAt h d.holds.pages at.seconds query answer.rows.items answer.read
+
+    -- where there is no answer
+    unanswered_by : (error : AskError) → AfterQuestion {T = Answer} tells phrase at.seconds (at.seconds + 1) IsMade (Err error) d e x y
+        → IsAnsweredBy (λ one. StoreStep s (items.Command (commands.Find at phrase)) one (with_reads s y e)) (Spoils s (items.Command (commands.Find at phrase))) (unanswered error)
+        → TakesBy s (items.Command (commands.Find at phrase)) (unanswered error) d e y
+    unanswered_by error after is =
+        question_by (λ one. StoreStep s (items.Command (commands.Find at phrase)) one (with_reads s y e)) s (items.Command (commands.Find at phrase)) (unanswered error) d e x y (λ one step. step) after.same after.but_cache
+        (after.cached told in_step.cached) in_step is
+
+    go : (q : Result Answer AskError) → AfterQuestion tells phrase at.seconds (at.seconds + 1) IsMade q d e x y → IsNoted phrase at q y z → TakesBy s (items.Command (commands.Find at phrase)) (found q) d e z
+    go (Ok answer) after (query, is_read, is) =
+        let (asked, read, made, has) = after.made told s.history in_step.stands in_step.cached in
+        let pieces = λ (pages : List ℕ). pieces_for s.history pages at.seconds (at.seconds + 1) (words_of asked) in
+        let answered = with_reads s y e in
+        let next = record answered { asked = noted_all s.asked (words_of query) at } in
+        let there = reads_by s d e x y in_step after.same after.but_cache (after.cached told in_step.cached) in
+        let A : ArchiveState → Type 0 = λ a. AreInStepBy e a next in (
+          next,
+          record {
+            step = (
+              (
+                Ok asked,
+                read,
+                (answer.rows.items, answer.read, subst (λ (pages : List ℕ). IsMadeAt s.history pages at.seconds asked answer.rows.items answer.read) in_step.pages_are made, refl),
+                subst (λ (pages : List ℕ). answered ≡ asking s (pieces pages)) in_step.pages_are (asked_of_query s d e x y (pieces d.holds.pages) in_step has),
+              ),
+              (Ok query, is_read, refl),
+            );
+            leads = keeps_leads s next d e (keeps_reads d e x s in_step after.same);
+            still = λ none. (refl, refl);
+          },
+          subst A (sym is) (noted_by e y answered (words_of query) at there),
+        )
+    go (Err (asks.Refused why)) after same =
+        let (place, read, is) = after.refused why refl in
+        let (unread, kept) = after.unasked why refl in
+        let none = ap (λ (v : DiskState). with_reads s y v) unread ∙ ap (λ (a : ArchiveState). with_reads s a d) kept ∙ no_reads s d x in_step in
+        subst (λ (a : ArchiveState). TakesBy s (items.Command (commands.Find at phrase)) (unanswered (asks.Refused why)) d e a) (sym same)
+        (unanswered_by (asks.Refused why) after ((Err place, read, ap Refused is, none), (Err place, read, refl)))
+    go (Err (asks.Damaged damage)) after same =
+        subst (λ (a : ArchiveState). TakesBy s (items.Command (commands.Find at phrase)) (unanswered (asks.Damaged damage)) d e a) (sym same)
+        (unanswered_by (asks.Damaged damage) after (subst (λ (pages : List ℕ). SpoilsAnswer s.history pages at.seconds (at.seconds + 1) phrase damage) in_step.pages_are (after.damaged told s.history in_step.stands in_step.cached damage refl)))
+    go (Err asks.Failed) after same = subst (λ (a : ArchiveState). TakesBy s (items.Command (commands.Find at phrase)) (unanswered asks.Failed) d e a) (sym same) (unanswered_by asks.Failed after tt)
+    go (Err asks.Memory) after same = subst (λ (a : ArchiveState). TakesBy s (items.Command (commands.Find at phrase)) (unanswered asks.Memory) d e a) (sym same) (unanswered_by asks.Memory after tt)
 
 pub top_by : {tells : Type 0} (s : Store) (count : TopCount) (at : Time) (phrase : List ℕ) (r : Result Answer AskError) (d e : DiskState) (x y : ArchiveState) → tells → AreInStepBy d x s
     → AfterQuestion tells phrase at.seconds (at.seconds + 1) (λ h query answer. IsWantedAt (First count.number) h d.holds.pages at.seconds query answer.rows.items answer.read) r d e x y

@@ -5,6 +5,10 @@ mod AnswerLemmas
 mod RoughLemmas
 mod SpanLemmas
 mod PlanLemmas
+mod ShareLemmas
 mod LiveLemmas
 mod ChosenLemmas
 mod CacheLemmas
+mod BestLemmas
+mod BestMadeLemmas
+mod BestStepLemmas

@@ -1,9 +1,13 @@
 -- What holds after each query, and after sublists were fetched for one, whatever it is for.
-use Rattle.std.specs.Prelude.{◌≡◌, List, ℕ, Result, Err, IfOk, OnOk, IsOk}
+use Rattle.std.specs.Prelude.{◌≡◌, ◌+◌, List, ℕ, Result, Ok, Err, IfOk, OnOk, IsOk}
 use Rattle.machine_model.specs.Calls.{OnlyReads}
 use Rattle.machine_model.specs.Causes.{Rose}
 use Rattle.machine_model.specs.States.{DiskState}
-use Rattle.query_lang.specs.Grammar.{Query}
+use Rattle.base_types.specs.declared.time.Time.{Time}
+use Rattle.plans_share.specs.Asked.{noted_all}
+use Rattle.query_lang.specs.Grammar.{Query, IsRead}
+use Rattle.query_lang.specs.Meaning.{words_of}
+use Rattle.query_lang.specs.Tokens.{term_of}
 use Rattle.pages_sublists.specs.declared.why.Damage.{Damage}
 use Rattle.pages_sublists.specs.declared.why.FetchError.{FetchError}
 use Rattle.pages_sublists.specs.declared.why.FetchError.TheVariants as fetches
@@ -64,3 +68,16 @@ pub record AfterQuestion {T : Type 0} (tells : Type 0) (phrase : List ℕ) (a b 
   -- and what is damaged is the first of what is read for the query's words, as what reads give shows
   pub damaged : tells → (h : History) → StandsFor old h → CacheStands d old → (damage : Damage) → result ≡ Err (asks.Damaged damage)
       → SpoilsAnswer h d.holds.pages a b phrase damage
+
+-- where a question is answered, its time is noted with each of the query's words, and else nothing is
+abbrev pub IsNoted : {T : Type 0} → List ℕ → Time → Result T AskError → ArchiveState → ArchiveState → Type 0
+IsNoted phrase at (Ok answer) old new = (query : Query) × IsRead term_of phrase (Ok query)
+    × (new ≡ record old { asked = noted_all old.asked (words_of query) at })
+IsNoted phrase at (Err error) old new = new ≡ old
+
+-- After a query for a time that is noted: all that is so after a query, and then it is noted.
+pub record AfterNoted {T : Type 0} (tells : Type 0) (phrase : List ℕ) (at : Time) (IsMade : History → Query → T → Type 0)
+    (result : Result T AskError) (d e : DiskState) (old new : ArchiveState) : Type 0 where
+  pub answered : ArchiveState
+  pub after : AfterQuestion tells phrase at.seconds (at.seconds + 1) IsMade result d e old answered
+  pub noted : IsNoted phrase at result answered new

@@ -5,11 +5,15 @@ use Rattle.plans_kinds.specs.declared.proposal.Proposal.{Proposal}
 use Rattle.query_eval.specs.declared.answer.Answer.{Answer}
 use Rattle.query_eval.specs.declared.spans.SpanAnswer.{SpanAnswer}
 use Rattle.model_archive.specs.declared.verdict.Verdict.{Verdict}
-use Rattle.model_archive.specs.Steps.{Reply, Refused, Found, Spanned, Approximated, Neared, Version, Proposed, Verified}
+use Rattle.model_archive.specs.Steps.{Reply, Refused, Found, FoundBest, Spanned, Approximated, Neared, Version, Proposed, RefusedIn, Shared, Verified}
 use Rattle.archive_questions.specs.declared.approximating.Approximation.{Approximation}
 use Rattle.archive_questions.specs.declared.approximating.RoughAnswer.{RoughAnswer}
+use Rattle.archive_questions.specs.declared.besting.BestAnswer.{BestAnswer}
+use Rattle.model_archive.specs.declared.sharing.Sharing.{Sharing}
 use Rattle.archive_questions.specs.declared.error.AskError.{AskError}
 use Rattle.archive_questions.specs.declared.error.AskError.TheVariants as asks
+use Rattle.archive_questions.specs.declared.error.ShareError.{ShareError}
+use Rattle.archive_questions.specs.declared.error.ShareError.TheVariants as shares
 use Rattle.archive_check.specs.declared.error.VerifyError.{VerifyError}
 use Rattle.archive_check.specs.declared.error.VerifyError.TheVariants as checks
 use Rattle.archive_entries.specs.declared.error.Declined.{Declined}
@@ -31,6 +35,9 @@ answered reply (Err error) = unanswered error
 
 abbrev pub found : Result Answer AskError → Ending
 found = answered (λ answer. Found answer.rows.items answer.read)
+
+abbrev pub best_found : Result BestAnswer AskError → Ending
+best_found = answered (λ best. FoundBest best.rows.items best.read best.opened best.blocks)
 
 abbrev pub spanned : Result SpanAnswer AskError → Ending
 spanned = answered (λ answer. Spanned answer.rows.items answer.read)
@@ -59,3 +66,8 @@ abbrev pub verified : Result Verdict VerifyError → Ending
 verified (Ok verdict) = Replied (Verified verdict)
 verified (Err checks.Failed) = Faulted
 verified (Err checks.Memory) = Starved
+
+abbrev pub shared : Result Sharing ShareError → Ending
+shared (Ok sharing) = Replied (Shared sharing.shares.items sharing.unit sharing.budget sharing.cost)
+shared (Err (shares.Refused why index)) = Replied (RefusedIn why index)
+shared (Err shares.Memory) = Starved

@@ -1,15 +1,17 @@
 //! What an archive is asked: the text of a document at a time, and what a query finds, or the first rows of it.
-ghost use Rattle.std.specs.Prelude.{◌≡◌, ◌+◌, ℕ, List, All, length, false, true, None, IsSome, IfOk, IsErrOf};
+ghost use Rattle.std.specs.Prelude.{◌≡◌, ◌+◌, ℕ, List, All, length, false, true, Ok, None, IsSome, IfOk, IsErrOf};
 ghost use Rattle.machine_model.specs.Causes.{Rose};
 ghost use Rattle.machine_model.specs.Calls.{OnlyReads};
+ghost use Rattle.query_lang.specs.Grammar.{IsRead};
 ghost use Rattle.query_lang.specs.Meaning.{words_of};
+ghost use Rattle.query_lang.specs.Tokens.{term_of};
 ghost use Rattle.query_eval.specs.Answers.{IsAnswer};
 ghost use Rattle.query_eval.specs.Firsts.{AreWantedOf};
 ghost use Rattle.query_eval.specs.Found.{told, read_of};
 ghost use Rattle.model_archive.specs.Histories.{History, text_at};
 ghost use Rattle.model_archive.specs.Plans.{is_another, plan_of};
 ghost use Rattle.model_archive.specs.Chosen.{AreChosen, IsMadeAt};
-ghost use Rattle.archive_questions.specs.After.{AfterFetching, AfterQuestion, Fetches};
+ghost use Rattle.archive_questions.specs.After.{AfterFetching, AfterNoted, AfterQuestion, Fetches};
 ghost use Rattle.archive_hand.specs.States.{StandsFor, AreInStepBy, Reaches};
 ghost use Rattle.archive_hand.specs.Stored.{Store};
 ghost use Rattle.archive_hand.specs.Takes.{TakesBy};
@@ -18,7 +20,7 @@ ghost use Rattle.archive_questions.specs.Endings.{found, version_shown};
 ghost use Rattle.base_commands.specs.declared.command.Command.TheVariants as commands;
 ghost use Rattle.base_commands.specs.declared.command.Item.TheVariants as items;
 
-use crate::choosing::parts_of;
+use crate::choosing::{moment, parts_of};
 use crate::error::{AskError, asked};
 use archive_entries::{ReadError, read_text};
 use archive_hand::Archive;
@@ -31,7 +33,8 @@ use query_lang::Query;
 use std::alloc::{AllocError, Global};
 
 /// What a query finds as of a time: the rows of the documents alive then that match, and how many
-/// postings were read for them. Nothing is changed but which pages are kept.
+/// postings were read for them. Where it is answered the archive notes the time with each word of the
+/// query; nothing else is changed but which pages are kept.
 ///
 /// `Refused`: the text is no query. `Damaged`: a sublist that was read isn't what the entry of its
 /// plan says. `Failed`: the disk failed.
@@ -50,14 +53,41 @@ pub fn find<D: Disk>(
 ) -> Result<Answer, AskError>
     requires within { Reaches (D.disk disk.old).reach archive.old }
     ensures only { D.Disk.only disk.old disk.new }
-    ensures after { AfterQuestion D.disk_tells expr.now at.seconds (at.seconds + 1)
+    ensures after { AfterNoted D.disk_tells expr.now at
         (λ h query answer. IsMadeAt h (D.disk disk.old).holds.pages at.seconds query answer.rows.items answer.read)
         result (D.disk disk.old) (D.disk disk.new) archive.old archive.new }
     // In step by what reads give, whatever lies in Pages, it is a step.
     ensures by_reads { D.disk_tells → (s : Store) → AreInStepBy (D.disk disk.old) archive.old s →
         TakesBy s (items.Command (commands.Find at expr.now)) (found result) (D.disk disk.old) (D.disk disk.new) archive.new }
 {
-    ask(alloc, disk, archive, at, expr, Wanted::All)
+    match Query::read(alloc, expr.as_str()) {
+        Ok(query) => find_and_note(alloc, disk, archive, &query, at),
+        Err(why) => Err(AskError::from(why)),
+    }
+}
+
+/// All that a query finds, whose words are then noted.
+fn find_and_note<D: Disk>(
+    alloc: Global,
+    disk: &mut D,
+    archive: &mut Archive,
+    query: &Query,
+    at: Time,
+) -> Result<Answer, AskError>
+    requires within { Reaches (D.disk disk.old).reach archive.old }
+    ensures only { D.Disk.only disk.old disk.new }
+    ensures after { (phrase : List ℕ) → IsRead term_of phrase (Ok query.now) → AfterNoted D.disk_tells phrase at
+        (λ h q answer. IsMadeAt h (D.disk disk.old).holds.pages at.seconds q answer.rows.items answer.read)
+        result (D.disk disk.old) (D.disk disk.new) archive.old archive.new }
+{
+    let answer = match answer_of(alloc, disk, archive, query, at, Wanted::All) {
+        Ok(answer) => answer,
+        Err(why) => return Err(AskError::from(why)),
+    };
+    match archive.note(alloc, query.words(), at) {
+        Ok(()) => Ok(answer),
+        Err(_) => Err(AskError::Memory),
+    }
 }
 
 /// The first rows of what a query finds as of a time, and how many postings were read, which are those
@@ -226,15 +256,4 @@ pub fn show<D: Disk>(
     };
     let text = read_text(alloc, disk, archive.journal(), place)?;
     Ok(Some(text))
-}
-
-/// The window of one second.
-fn moment(t: Time) -> Span
-    ensures from { result.from ≡ t.seconds }
-    ensures to { result.to ≡ t.seconds + 1 }
-{
-    Span {
-        from: t.seconds,
-        to: t.seconds + 1,
-    }
 }

@@ -51,7 +51,7 @@ pub(crate) fn parts_of<D: Disk>(
 }
 
 /// What is chosen of a word's list for a window.
-fn part_of<D: Disk>(
+pub(crate) fn part_of<D: Disk>(
     alloc: Global,
     disk: &mut D,
     archive: &mut Archive,
@@ -83,7 +83,7 @@ fn part_of<D: Disk>(
 
 /// A word's list from a horizon on, where a window reaches past that. A posting that began before
 /// begins there: what was before is for the stored sublists to say.
-fn tail_of(
+pub(crate) fn tail_of(
     alloc: Global,
     archive: &Archive,
     word: &Key,
@@ -146,5 +146,16 @@ fn from_on(t: Time) -> Span
     Span {
         from: t.seconds,
         to: NOW,
+    }
+}
+
+/// The window of one second.
+pub(crate) fn moment(t: Time) -> Span
+    ensures from { result.from ≡ t.seconds }
+    ensures to { result.to ≡ t.seconds + 1 }
+{
+    Span {
+        from: t.seconds,
+        to: t.seconds + 1,
     }
 }

@@ -1,6 +1,7 @@
 //! Why a query was not answered.
 ghost use Rattle.std.specs.Prelude.{◌≡◌};
 ghost use Rattle.archive_questions.specs.declared.error.AskError.{AskError};
+ghost use Rattle.archive_questions.specs.declared.error.ShareError.{ShareError};
 ghost use Rattle.archive_questions.specs.Causes.{ask_error_of_fetch, ask_error_of_query, asked_of};
 
 use model_archive::Refusal;
@@ -49,6 +50,28 @@ impl From<AllocError> for AskError {
 
     fn from(_: AllocError) -> Self {
         AskError::Memory
+    }
+}
+
+/// Why a budget was not shared. Nothing was changed.
+#[derive(Clone, Copy, Debug, PartialEq, Eq)]
+pub enum ShareError {
+    /// One of the phrases is refused.
+    Refused {
+        /// Why.
+        why: Refusal,
+        /// Its number, from 1.
+        index: u32,
+    },
+    /// There was no memory.
+    Memory,
+}
+
+impl From<AllocError> for ShareError {
+    ghost from_gives = { λ _ e. e ≡ ShareError.Memory };
+
+    fn from(_: AllocError) -> Self {
+        ShareError::Memory
     }
 }
 

@@ -9,6 +9,7 @@
 
 mod laws;
 mod page;
+mod shares;
 mod showing;
 mod tally;
 mod verdicts;

@@ -1,8 +1,8 @@
 //! A page on which replies are written.
 ghost use Rattle.std.specs.Prelude.{◌≡◌, ◌+◌, ◌≤◌, [], ◌++◌, length, codes, decimal, Some, None, IfOk, OnOk, OnErr};
 ghost use Rattle.archive_replies.specs.Pages.{reply_room};
-ghost use Rattle.model_archive.specs.Replies.{approx_text, cost_text, detail_text, end_text, full_text, near_text, node_text, reply_text, row_text, segment_text, space_text, span_text, which_text};
-ghost use Rattle.model_archive.specs.Steps.{Accepted, Refused, RefusedIn, Found, Spanned, Approximated, Neared, Version, Proposed, Planned};
+ghost use Rattle.model_archive.specs.Replies.{approx_text, cost_text, detail_text, end_text, full_text, near_text, node_text, reply_text, row_text, segment_text, space_text, span_text, which_text, best_end_text};
+ghost use Rattle.model_archive.specs.Steps.{Accepted, Refused, RefusedIn, Found, FoundBest, Spanned, Approximated, Neared, Version, Proposed, Planned};
 
 use base_types::{Posting, Span, Which};
 use itoa::Buffer;
@@ -74,8 +74,8 @@ impl ReplyPage {
         self.put(b"\n");
     }
 
-    /// Writes the reply to a batch that is refused for its item of this number, from 1, in place of
-    /// what the page held. It takes no memory. Constant cost.
+    /// Writes the reply to a batch that is refused for its item of this number, from 1, or to a line that is
+    /// refused for its word of this number, in place of what the page held. It takes no memory. Constant cost.
     pub fn refused_in(&mut self, refusal: Refusal, index: u32)
         ensures { self.new.bytes ≡ reply_text (RefusedIn refusal index) }
     {
@@ -98,6 +98,25 @@ impl ReplyPage {
             self.put_row(row)?;
         }
         self.put_end(rows.len(), read)
+    }
+
+    /// Writes the first rows that a query found by blocks, and that so many postings were read for all of
+    /// them and so many blocks opened of so many, in place of what the page held. It takes memory; an error
+    /// means that memory ran out, and leaves a part of the reply. The cost is linear in the rows.
+    pub fn found_best(
+        &mut self,
+        rows: &[Row],
+        read: u64,
+        opened: u64,
+        blocks: u64,
+    ) -> Result<(), AllocError>
+        ensures { OnOk result (self.new.bytes ≡ reply_text (FoundBest rows.now read opened blocks)) }
+    {
+        self.clear();
+        for row in rows {
+            self.put_row(row)?;
+        }
+        self.put_best_end(rows.len(), read, opened, blocks)
     }
 
     /// Writes the rows that a query found over a window of time, and that so many postings were read
@@ -322,6 +341,26 @@ impl ReplyPage {
         Ok(())
     }
 
+    /// Adds how many rows there are, how many postings were read for them, and how many blocks were opened
+    /// of how many. It takes memory where there is no room. Constant cost but for that.
+    fn put_best_end(
+        &mut self,
+        rows: usize,
+        read: u64,
+        opened: u64,
+        blocks: u64,
+    ) -> Result<(), AllocError>
+        ensures { OnOk result (self.new.bytes ≡ self.old.bytes ++ best_end_text rows read opened blocks) }
+    {
+        self.make_room(REPLY_ROOM)?;
+        self.put_named(b"end ", rows as u64);
+        self.put_named(b" read ", read);
+        self.put_named(b" opened ", opened);
+        self.put_named(b" of ", blocks);
+        self.put(b"\n");
+        Ok(())
+    }
+
     /// Empties the page. Constant cost.
     pub(crate) fn clear(&mut self)
         ensures bytes { self.new.bytes ≡ [] }
@@ -359,9 +398,18 @@ impl ReplyPage {
         let Some(cost) = cost else {
             return;
         };
+        self.put_wide(b" cost ", cost);
+    }
+
+    /// Adds a name and a number of up to 128 bits behind it, in decimal. It takes no memory. Constant cost.
+    pub(crate) fn put_wide(&mut self, name: &[u8], n: u128)
+        requires { length name.now + 39 ≤ self.old.room }
+        ensures bytes { self.new.bytes ≡ self.old.bytes ++ name.now ++ decimal n }
+        ensures room { self.old.room ≤ self.new.room + (length name.now + 39) }
+    {
+        self.put(name);
         let mut buffer = Buffer::new();
-        self.put(b" cost ");
-        self.put(buffer.format(cost).as_bytes());
+        self.put(buffer.format(n).as_bytes());
     }
 
     /// Adds a name and a number behind it. It takes no memory. Constant cost.

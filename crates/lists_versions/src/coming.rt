@@ -1,5 +1,5 @@
 //! Changes that are to come all at once.
-ghost use Rattle.std.specs.Prelude.{◌≡◌, [], ◌∷◌, ◌++◌, List, Some, OnOk, MatchResult};
+ghost use Rattle.std.specs.Prelude.{◌≡◌, [], ◌∷◌, ◌++◌, List, Some, OnErr, OnOk, MatchResult};
 ghost use Rattle.base_types.specs.declared.text_place.TextPlace.{TextPlace};
 ghost use Rattle.lists_versions.specs.declared.change.Change.{Change as PlainChange};
 ghost use Rattle.lists_versions.specs.Changes.{last_time, latest};
@@ -170,6 +170,7 @@ impl Coming {
         requires { AreCounted directory.now.changes self.old }
         ensures added { OnOk result (self.new.changes.items ≡ self.old.changes.items ++ change ∷ []) }
         ensures counted { OnOk result (AreCounted directory.now.changes self.new) }
+        ensures same { OnErr result ((self.new.changes.items ≡ self.old.changes.items) × AreCounted directory.now.changes self.new) }
     {
         let before = self.latest(directory, change.doc);
         self.changes.reserve(1)?;

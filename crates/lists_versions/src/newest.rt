@@ -1,5 +1,5 @@
 //! The latest changes of documents among changes that are to come.
-ghost use Rattle.std.specs.Prelude.{◌≡◌, ◌==◌, None, Some, if◌then◌else◌, OnOk};
+ghost use Rattle.std.specs.Prelude.{◌≡◌, ◌==◌, None, Some, if◌then◌else◌, OnErr, OnOk};
 ghost use Rattle.base_types.specs.declared.ids.DocId.{DocId as Document};
 ghost use Rattle.lists_versions.specs.Newest.{newest_of};
 
@@ -38,6 +38,7 @@ impl Newest {
     pub(crate) fn put(&mut self, change: Change<TextPlace>) -> Result<(), AllocError>
         ensures put { OnOk result ((d : Document)
             → newest_of self.new d ≡ (if change.doc.0 == d.0 then Some change else newest_of self.old d)) }
+        ensures same { OnErr result ((d : Document) → newest_of self.new d ≡ newest_of self.old d) }
     {
         self.by_document.reserve(1)?;
         let put: Result<_, _> = self.by_document.insert(change.doc, change);

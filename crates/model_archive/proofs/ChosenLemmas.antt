@@ -1,14 +1,13 @@
 -- What is chosen from pages that hold the live plans tells what the history's texts do, and so the answer that is made from it is the history's.
-use Rattle.std.proofs.Common.{◌≡◌, ℕ, zero, suc, ◌+◌, ◌^◌, ◌<◌, ◌≤◌, ◌==◌, Bool, true, false, cond, ◌&&◌, if◌then◌else◌, bytes_eq, List, [], ◌∷◌, ◌++◌, length, get_or, All, Option, Some, None, Ok, Err, IsSome, is_some, inl, inr, refl, ap, sym, subst, ◌∙◌, arith}
+use Rattle.std.proofs.Common.{◌≡◌, ℕ, zero, suc, ◌+◌, ◌^◌, ◌<◌, ◌≤◌, Bool, true, false, cond, ◌&&◌, if◌then◌else◌, bytes_eq, List, [], ◌∷◌, ◌++◌, length, get_or, All, Option, Some, None, Ok, Err, IsSome, is_some, inl, inr, refl, ap, sym, subst, ◌∙◌, arith}
 use Rattle.std.specs.Cmp.Lexicographic.{bytes_decides}
 use Rattle.std.proofs.lemmas.Bool.{cases_lt}
-use Rattle.std.proofs.lemmas.Bool.Decides.{nat_tests}
 use Rattle.std.proofs.lemmas.List.Elements.{All-head, All-tail}
 use Rattle.std.proofs.lemmas.List.Sums.{sum_by-cons}
 use Rattle.base_types.specs.declared.ids.DocId.{DocId}
 use Rattle.base_types.specs.declared.posting.Posting.{Posting}
 use Rattle.text_words.proofs.CountLemmas.{itself}
-use Rattle.lists_postings.specs.Lists.{holds, meets, sublist, frequency}
+use Rattle.lists_postings.specs.Lists.{frequency}
 use Rattle.lists_postings.proofs.Clipping.{one_list_of, outside}
 use Rattle.lists_postings.proofs.Merged.{append-none, append-some}
 use Rattle.lists_postings.proofs.StretchWindows.{stretches-same}
@@ -32,27 +31,9 @@ use Rattle.model_archive.specs.Holding.{HoldsPlan, HoldsPlans}
 use Rattle.model_archive.specs.Legal.{IsLoadable}
 use Rattle.model_archive.specs.Planning.{IsListUpTo}
 use Rattle.model_archive.specs.Plans.{plan_of}
+use Rattle.model_archive.proofs.SheetLemmas.{part_tells}
 use Rattle.model_archive.proofs.BoundLemmas.{of_word, word_has, word_planned, are_cuts}
 use Rattle.model_archive.proofs.OutcomeLemmas.{has_word}
-
--- ---- parts of a list
-
-missed : (a b t : ℕ) (p : Posting) → meets a b p ≡ false → a ≤ t → t < b → holds t p ≡ false
-missed a b t p out from to = grind (arith, nat_tests)
-
--- what stands in a window of a list says how often a document has the word inside it
-pub part_tells : (a b d t : ℕ) (list : List Posting) → a ≤ t → t < b → frequency d t (sublist a b list) ≡ frequency d t list
-part_tells a b d t [] from to = refl
-part_tells a b d t (p ∷ list) from to = go (meets a b p) refl (part_tells a b d t list from to)
-  where
-    neither : (c : Bool) → (if (c && false) then p.tf else frequency d t list) ≡ frequency d t list
-    neither true = refl
-    neither false = refl
-
-    go : (m : Bool) → meets a b p ≡ m → frequency d t (sublist a b list) ≡ frequency d t list
-        → frequency d t (cond m (p ∷ sublist a b list) (sublist a b list)) ≡ (if (p.doc.0 == d && holds t p) then p.tf else frequency d t list)
-    go true e rest = ap (λ (n : ℕ). if (p.doc.0 == d && holds t p) then p.tf else n) rest
-    go false e rest = rest ∙ sym (ap (λ (h : Bool). if (p.doc.0 == d && h) then p.tf else frequency d t list) (missed a b t p e from to) ∙ neither (p.doc.0 == d))
 
 -- ---- a word's list
 
@@ -61,13 +42,13 @@ abbrev pub Tells : History → List ℕ → ℕ → ℕ → List Posting → Typ
 Tells h word a b list = (doc : DocId) (t : ℕ) → a ≤ t → t < b → frequency doc.0 t list ≡ frequency_at h word doc t
 
 -- a live plan of a word whose places hold its sublists
-record IsHeld (h : History) (pages : List ℕ) (word : List ℕ) (plan : PlanEntry) : Type 0 where
-  list : List Posting
-  list_is : IsListUpTo h word plan.horizon.seconds list
-  cuts : AreCutsOf list (seconds plan.cuts) plan.horizon.seconds
-  each : EachSegment (HoldsSublist plan.layout list pages) (seconds plan.cuts) plan.horizon.seconds plan.places
+pub record IsHeld (h : History) (pages : List ℕ) (word : List ℕ) (plan : PlanEntry) : Type 0 where
+  pub list : List Posting
+  pub list_is : IsListUpTo h word plan.horizon.seconds list
+  pub cuts : AreCutsOf list (seconds plan.cuts) plan.horizon.seconds
+  pub each : EachSegment (HoldsSublist plan.layout list pages) (seconds plan.cuts) plan.horizon.seconds plan.places
 
-held_for : (h : History) (pages : List ℕ) (word : List ℕ) (plan : PlanEntry) → IsLoadable h → HoldsPlans h pages → plan_of h word ≡ Some plan → IsHeld h pages word plan
+pub held_for : (h : History) (pages : List ℕ) (word : List ℕ) (plan : PlanEntry) → IsLoadable h → HoldsPlans h pages → plan_of h word ≡ Some plan → IsHeld h pages word plan
 held_for h pages word plan loads held_all live =
     let horizon = plan.horizon.seconds in
     let f : ℕ → ℕ → ℕ = λ doc t. frequency_at h word (record { 0 = doc }) t in
@@ -83,7 +64,7 @@ held_for h pages word plan loads held_all live =
       each = subst H same held.each;
     }
 
-held_gives : (h : History) (pages : List ℕ) (word : List ℕ) (plan : PlanEntry) (a b : ℕ) (gathered : ListOrDamage) → (held : IsHeld h pages word plan) → GathersOf pages plan a b gathered
+pub held_gives : (h : History) (pages : List ℕ) (word : List ℕ) (plan : PlanEntry) (a b : ℕ) (gathered : ListOrDamage) → (held : IsHeld h pages word plan) → GathersOf pages plan a b gathered
     → IsGathered held.list (seconds plan.cuts) a b plan.horizon.seconds gathered
 held_gives h pages word plan a b gathered held gathers = held_gathered plan.layout held.list pages (seconds plan.cuts) plan.horizon.seconds plan.places a b gathered held.cuts held.each gathers
 

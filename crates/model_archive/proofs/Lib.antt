@@ -6,6 +6,7 @@ pub mod HoldLemmas
 pub mod StandsLemmas
 pub mod RefusalLemmas
 mod PlanningLemmas
+mod SharingLemmas
 pub mod StoringLemmas
 mod ToldLemmas
 pub mod Sorting
@@ -19,3 +20,6 @@ pub mod OutcomeLemmas
 mod BoundLemmas
 pub mod ChosenLemmas
 pub mod RoughMade
+pub mod SheetLemmas
+pub mod BestLemmas
+pub mod HeldBestLemmas

@@ -1,5 +1,5 @@
 -- Each item has one outcome: from a legal history to a legal one.
-use Rattle.std.proofs.Common.{subst, sym, ◌≡◌, ℕ, ◌+◌, ◌<◌, ◌≤◌, ◌^◌, not, nat_lt, List, [], ◌∷◌, ◌++◌, length, map, take, All, Contains, Option, Some, None, IsSome, is_some, Result, Ok, Err, refl, ap, arith, unwrap_or, ◌∙◌, inl, inr}
+use Rattle.std.proofs.Common.{subst, sym, ◌≡◌, ℕ, ◌+◌, ◌<◌, ◌≤◌, ◌^◌, not, nat_lt, List, [], ◌∷◌, ◌++◌, length, map, take, All, Contains, Option, Some, None, IsSome, is_some, Result, Ok, Err, refl, ap, ap₂, sum_by, Bool, true, false, arith, unwrap_or, ◌∙◌, inl, inr}
 use Rattle.std.specs.Str.{is_utf8}
 use Rattle.std.specs.Option.{option_map}
 use Rattle.std.proofs.lemmas.Bool.{cases_lt, ltb-false}
@@ -28,10 +28,12 @@ use Rattle.journal_entries.specs.declared.act.Act.{Act}
 use Rattle.journal_entries.specs.declared.act.Act.TheVariants as batched
 use Rattle.journal_entries.specs.declared.entry.Entry.{Entry}
 use Rattle.journal_entries.specs.declared.entry.Entry.TheVariants as entries
-use Rattle.query_lang.specs.Grammar.{Query}
+use Rattle.query_lang.specs.Chains.{asks_for_any}
+use Rattle.query_lang.specs.Grammar.{Query, IsRead}
 use Rattle.query_lang.specs.Machine.{read}
 use Rattle.query_lang.specs.Meaning.{words_of}
 use Rattle.query_lang.specs.Tokens.{term_of}
+use Rattle.query_lang.proofs.ChainLaws.{any_scores}
 use Rattle.query_lang.proofs.ReadingLaws.{is_read, one_reading}
 use Rattle.query_eval.specs.Spans.{row_kind, scored_at}
 use Rattle.query_eval.specs.declared.answer.Row.{Row}
@@ -45,10 +47,13 @@ use Rattle.model_archive.specs.declared.refusal.Refusal.TheVariants as refusals
 use Rattle.plans_kinds.specs.Plans.{IsFitFor}
 use Rattle.model_archive.specs.Histories.{History, change_by, changes, text_at, entry_refusal}
 use Rattle.model_archive.specs.Legal.{EachMayCome, IsLegal, IsLegalEntry, IsLoadable}
+use Rattle.journal_entries.specs.declared.place.Layout.TheVariants.{Flat}
 use Rattle.journal_entries.specs.declared.plan.PlanEntry.{PlanEntry}
 use Rattle.pages_sublists.specs.Segments.{seconds}
 use Rattle.pages_sublists.specs.Gathering.{stored_size}
 use Rattle.model_archive.specs.Answers.{frequency_at, IsWordList}
+use Rattle.query_top.specs.Sheets.{Sheet}
+use Rattle.model_archive.specs.Bests.{IsSheetOf, sheet_laid, sublist_at}
 use Rattle.model_archive.specs.Chosen.{IsReadFor, IsReadOf, IsTailFor}
 use Rattle.model_archive.specs.Plans.{plan_of}
 use Rattle.base_commands.specs.Documents.{HasDocument}
@@ -58,13 +63,15 @@ use Rattle.base_commands.specs.declared.command.Item.{Item}
 use Rattle.base_commands.specs.declared.command.Item.TheVariants as items
 use Rattle.base_commands.specs.declared.command.Kind.{Kind}
 use Rattle.base_commands.specs.declared.command.Kind.TheVariants.{Guarantee}
+use Rattle.base_commands.specs.declared.count.BestCount.{BestCount}
 use Rattle.base_commands.specs.declared.count.TopCount.{TopCount}
 use Rattle.base_commands.specs.declared.text.Text.TheVariants as texts
 use Rattle.model_archive.specs.declared.summary.Summary.{Summary}
-use Rattle.model_archive.specs.Steps.{Reply, Accepted, Refused, Found, Spanned, Version, Proposed, Planned, Verified, Adds, Declines, IsRepliedBy, IsReplied, Finds, FindsBy, Tops, TopsBy, Neared, NearsBy, Spans, SpansBy, Proposes, ProposesPlan, Plans, StoresPlan, spelled_key, CarriesOut, Step, too_long, bad_text, full_journal, arrival_refusal, deletion_refusal, mark_refusal}
+use Rattle.model_archive.specs.Steps.{Reply, Accepted, Refused, Found, FoundBest, Spanned, Version, Proposed, Planned, Verified, Adds, Declines, IsRepliedBy, IsReplied, Finds, FindsBy, Tops, TopsBy, Bests, BestsBy, IsNoDisjunction, Neared, NearsBy, Spans, SpansBy, Proposes, ProposesPlan, Plans, StoresPlan, spelled_key, CarriesOut, Step, too_long, bad_text, full_journal, arrival_refusal, deletion_refusal, mark_refusal}
 use Rattle.model_archive.specs.Runs.{Outcome, IsRun}
-use Rattle.model_archive.specs.Worlds.{World, world_of}
+use Rattle.model_archive.specs.Worlds.{World}
 use Rattle.model_archive.proofs.HistoryLemmas.{legal-push, loadable-push, entry_loads}
+use Rattle.model_archive.proofs.BestLemmas.{each_sheets, found_by_blocks, one_zip}
 use Rattle.model_archive.proofs.BatchLemmas.{none_found}
 use Rattle.model_archive.proofs.BatchOutcomes.{no_cause, is_true, each_batch, batches_keep, one_batch}
 use Rattle.model_archive.proofs.RoughLemmas.{each_approximates, one_approximates, each_rough, one_rough}
@@ -72,8 +79,10 @@ use Rattle.model_archive.proofs.StoringLemmas.{plan_outcome, plans_keep}
 use Rattle.model_archive.proofs.ToldLemmas.{plans_alike}
 use Rattle.model_archive.proofs.CertifyingLemmas.{each_certifies, one_certifies}
 use Rattle.model_archive.proofs.VerifyLemmas.{each_verdict, one_verdict}
+use Rattle.plans_share.specs.declared.asked.Asking.{Asking}
+use Rattle.model_archive.proofs.SharingLemmas.{each_noted, each_shares, one_noted, one_world, shares_nothing}
 use Rattle.model_archive.proofs.PlanningLemmas.{each_phrase, one_phrase, last_in_time}
-use Rattle.model_archive.specs.Choices.{IsChoice, IsStoring, SameButSegments, SamePlanned}
+use Rattle.model_archive.specs.Choices.{IsChoice, IsSharing, IsStoring, SameButChosen, SameButOpened, SamePlanned}
 use Rattle.model_archive.specs.Planning.{last_second, IsListUpTo}
 
 -- an entry that isn't refused is legal
@@ -221,6 +230,31 @@ each_neared h tolerance at loads query =
     let read = each_read h 0 (2 ^ 40) (words_of query) loads in
     (Neared rows read.0, (rows, read.0, rough, read.1, refl))
 
+-- each word has a sheet
+each_sheet_of : (h : History) (word : List ℕ) (plan : Option PlanEntry) (t : ℕ) → IsLoadable h → (s : Sheet) × IsSheetOf h word plan t s
+each_sheet_of h word None t legal = let list = each_word_list h word legal in (sheet_laid Flat t [] list.0, (list.0, list.1, refl))
+each_sheet_of h word (Some plan) t legal =
+    let sealed = each_list_up_to h word plan.horizon.seconds (omega (arith, plan.horizon.before_now)) legal in
+    let tail = each_tail h word (t + 1) plan.horizon.seconds legal in
+    (sheet_laid plan.layout t (sublist_at t plan.horizon.seconds sealed.0 (seconds plan.cuts)) tail.0, (sealed.0, tail.0, sealed.1, tail.1, refl))
+
+-- the first rows are found by blocks
+each_best : (h : History) (count : BestCount) (at : Time) (text : List ℕ) → IsLoadable h → asks_for_any text ≡ true → (query : Query) → IsRead term_of text (Ok query) → (reply : Reply) × BestsBy h count at query reply
+each_best h count at text loads any query is =
+    let (reply, (rows, read, answer, is_read, found)) = each_found h at loads query in
+    let sheets = each_sheets h at.seconds (λ word. each_sheet_of h word (plan_of h word) at.seconds loads) (words_of query) in
+    let (opened, blocks, by) = found_by_blocks h at.seconds count.number query rows sheets.0 loads at.before_now (any_scores text query any is) answer sheets.1 in
+    (FoundBest (take count.number rows) read opened blocks, (rows, read, opened, blocks, answer, is_read, by, refl))
+
+each_bests : (h : History) (count : BestCount) (at : Time) (text : List ℕ) → IsLoadable h → (reply : Reply) × Bests (asks_for_any text) h count at text reply
+each_bests h count at text loads = go (asks_for_any text) refl (read term_of text) (is_read term_of text)
+  where
+    go : (b : Bool) → asks_for_any text ≡ b → (r : Result Query ℕ) → IsRead term_of text r → (reply : Reply) × Bests b h count at text reply
+    go true any (Ok query) is = let best = each_best h count at text loads any query is in (best.0, (Ok query, is, best.1))
+    go true any (Err place) is = (Refused (refusals.BadQuery place), (Err place, is, refl))
+    go false any (Ok query) is = (Refused refusals.NotDisjunction, (Ok query, is, refl))
+    go false any (Err place) is = (Refused (refusals.BadQuery place), (Err place, is, refl))
+
 each_spanned : (h : History) (span : Span) → IsLoadable h → (query : Query) → (reply : Reply) × SpansBy h span query reply
 each_spanned h span loads query =
     let given = each-window (λ doc t. is_some (text_at h doc t)) (λ doc t word. frequency_at h word doc t) query (2 ^ 32) span.from span.to span.in_time
@@ -253,44 +287,47 @@ each_plans h phrase kind factor loads =
 declines_outcome : (h : History) (why : Refusal) → (outcome : Outcome Reply History) × Declines h why outcome.reply outcome.next
 declines_outcome h why = (record { reply = Refused why; next = h }, (refl, refl))
 
-each_command : (h : History) (c : Command) → IsLoadable h → (outcome : Outcome Reply History) × CarriesOut h c outcome.reply outcome.next
-each_command h (commands.Arrive doc at (texts.Bytes text)) loads = adds_outcome h (entries.Arrive doc at text) (arrival_refusal h doc at text)
-each_command h (commands.Arrive doc at (texts.TooLong bytes)) loads = declines_outcome h (refusals.TooLong most_text)
-each_command h (commands.Delete doc at) loads = adds_outcome h (entries.Delete doc at) (deletion_refusal h doc at)
-each_command h commands.Format loads = adds_outcome h entries.Format (mark_refusal h)
-each_command h (commands.Batch batch) loads = each_batch h batch
-each_command h (commands.Find at expr) loads =
+each_command : (asked : List Asking) (h : History) (c : Command) → IsLoadable h → (outcome : Outcome Reply History) × CarriesOut asked h c outcome.reply outcome.next
+each_command asked h (commands.Arrive doc at (texts.Bytes text)) loads = adds_outcome h (entries.Arrive doc at text) (arrival_refusal h doc at text)
+each_command asked h (commands.Arrive doc at (texts.TooLong bytes)) loads = declines_outcome h (refusals.TooLong most_text)
+each_command asked h (commands.Delete doc at) loads = adds_outcome h (entries.Delete doc at) (deletion_refusal h doc at)
+each_command asked h commands.Format loads = adds_outcome h entries.Format (mark_refusal h)
+each_command asked h (commands.Batch batch) loads = each_batch h batch
+each_command asked h (commands.Find at expr) loads =
     let found = each_finds h at expr loads in
     (record { reply = found.0; next = h }, (refl, found.1))
-each_command h (commands.Top count at expr) loads =
+each_command asked h (commands.Top count at expr) loads =
     let tops = each_tops h count at expr loads in (record { reply = tops.0; next = h }, (refl, tops.1))
-each_command h (commands.Approx word tolerance) loads =
+each_command asked h (commands.Approx word tolerance) loads =
     let told = each_approximates h word tolerance (λ w. each_word_list h w loads) in (record { reply = told.0; next = h }, (refl, told.1))
-each_command h (commands.Rough tolerance at expr) loads =
+each_command asked h (commands.Rough tolerance at expr) loads =
     let near = each_text (NearsBy h tolerance at) (each_neared h tolerance at loads) expr in (record { reply = near.0; next = h }, (refl, near.1))
-each_command h (commands.Show doc at) loads = (record { reply = Version (text_at h doc at.seconds); next = h }, (refl, refl))
-each_command h (commands.Plan word kind fraction) loads = each_plans h word kind fraction loads
-each_command h (commands.Propose word fraction) loads =
+each_command asked h (commands.Best count at expr) loads =
+    let bests = each_bests h count at expr loads in (record { reply = bests.0; next = h }, (refl, bests.1))
+each_command asked h (commands.Show doc at) loads = (record { reply = Version (text_at h doc at.seconds); next = h }, (refl, refl))
+each_command asked h (commands.Plan word kind fraction) loads = each_plans h word kind fraction loads
+each_command asked h (commands.Propose word fraction) loads =
     let proposed = each_proposes h word fraction loads in
     (record { reply = proposed.0; next = h }, (refl, proposed.1))
-each_command h (commands.Between span expr) loads =
+each_command asked h (commands.Between span expr) loads =
     let found = each_spans h span expr loads in
     (record { reply = found.0; next = h }, (refl, found.1))
-each_command h (commands.Certificate word) loads =
+each_command asked h (commands.Certificate word) loads =
     let certified = each_certifies h word loads in
     (record { reply = certified.0; next = h }, (refl, certified.1))
-each_command h commands.Verify loads =
+each_command asked h commands.Verify loads =
     let (verdict, verifies) = each_verdict h loads in
     (record { reply = Verified verdict; next = h }, (refl, (verdict, verifies, refl)))
-each_command h to_come loads = declines_outcome h refusals.Line
-
--- what came of a history, as the state that has it
-in_world : (P : Reply → History → Type 0) → (outcome : Outcome Reply History) × P outcome.reply outcome.next → (outcome : Outcome Reply World) × P outcome.reply outcome.next.history
-in_world P came = (record { reply = came.0.reply; next = world_of came.0.next }, came.1)
+each_command asked h (commands.Share factor words) loads =
+    let told = each_shares asked h words factor.fraction (λ word. each_list_up_to h word (last_second h) (last_in_time h) loads) in (record { reply = told.0; next = h }, (refl, told.1))
+each_command asked h to_come loads = declines_outcome h refusals.Line
 
 pub each_outcome : (w : World) (item : Item) → IsLoadable w.history → (outcome : Outcome Reply World) × Step w item outcome.reply outcome.next
-each_outcome w (items.Command c) loads = in_world (CarriesOut w.history c) (each_command w.history c loads)
-each_outcome w items.Line loads = in_world (Declines w.history refusals.Line) (declines_outcome w.history refusals.Line)
+each_outcome w (items.Command c) loads =
+    let came = each_command w.asked w.history c loads in
+    let noted = each_noted w.asked c in
+    (record { reply = came.0.reply; next = record { history = came.0.next; asked = noted.0 } }, (came.1, noted.1))
+each_outcome w items.Line loads = (record { reply = Refused refusals.Line; next = w }, ((refl, refl), refl))
 
 -- and what is so of a history, and stays so with a legal entry more, is so of what a command leads to
 adds_keep : (P : History → Type 0) → ((h : History) (e : Entry) → P h → IsLegalEntry h e → P (h ++ e ∷ []))
@@ -302,33 +339,35 @@ stays : (P : History → Type 0) (h next : History) → P h → next ≡ h → P
 stays P h next is same = subst P (sym same) is
 
 pub command_keeps : (P : History → Type 0) → ((h : History) (e : Entry) → P h → IsLegalEntry h e → P (h ++ e ∷ []))
-    → (h : History) (c : Command) (reply : Reply) (next : History) → P h → HasDocument (items.Command c) → CarriesOut h c reply next → P next
-command_keeps P push h (commands.Arrive doc at (texts.Bytes text)) reply next is range step = adds_keep P push h (entries.Arrive doc at text) (arrival_refusal h doc at text) reply next is (arrival_legal h doc at text range) step
-command_keeps P push h (commands.Arrive doc at (texts.TooLong bytes)) reply next is range step = stays P h next is step.0
-command_keeps P push h (commands.Delete doc at) reply next is range step = adds_keep P push h (entries.Delete doc at) (deletion_refusal h doc at) reply next is (deletion_legal h doc at range) step
-command_keeps P push h commands.Format reply next is range step = adds_keep P push h entries.Format (mark_refusal h) reply next is (mark_legal h) step
-command_keeps P push h (commands.Batch batch) reply next is range step = batches_keep P push h batch reply next is range step
-command_keeps P push h (commands.Find at expr) reply next is range step = stays P h next is step.0
-command_keeps P push h (commands.Top count at expr) reply next is range step = stays P h next is step.0
-command_keeps P push h (commands.Approx word tolerance) reply next is range step = stays P h next is step.0
-command_keeps P push h (commands.Rough tolerance at expr) reply next is range step = stays P h next is step.0
-command_keeps P push h (commands.Show doc at) reply next is range step = stays P h next is step.0
-command_keeps P push h (commands.Plan word kind fraction) reply next is range step = plans_keep P push h word kind fraction reply next is step
-command_keeps P push h (commands.Propose word fraction) reply next is range step = stays P h next is step.0
-command_keeps P push h (commands.Between span expr) reply next is range step = stays P h next is step.0
-command_keeps P push h (commands.Certificate word) reply next is range step = stays P h next is step.0
-command_keeps P push h commands.Verify reply next is range step = stays P h next is step.0
-command_keeps P push h to_come reply next is range step = stays P h next is step.0
+    → (asked : List Asking) (h : History) (c : Command) (reply : Reply) (next : History) → P h → HasDocument (items.Command c) → CarriesOut asked h c reply next → P next
+command_keeps P push asked h (commands.Arrive doc at (texts.Bytes text)) reply next is range step = adds_keep P push h (entries.Arrive doc at text) (arrival_refusal h doc at text) reply next is (arrival_legal h doc at text range) step
+command_keeps P push asked h (commands.Arrive doc at (texts.TooLong bytes)) reply next is range step = stays P h next is step.0
+command_keeps P push asked h (commands.Delete doc at) reply next is range step = adds_keep P push h (entries.Delete doc at) (deletion_refusal h doc at) reply next is (deletion_legal h doc at range) step
+command_keeps P push asked h commands.Format reply next is range step = adds_keep P push h entries.Format (mark_refusal h) reply next is (mark_legal h) step
+command_keeps P push asked h (commands.Batch batch) reply next is range step = batches_keep P push h batch reply next is range step
+command_keeps P push asked h (commands.Find at expr) reply next is range step = stays P h next is step.0
+command_keeps P push asked h (commands.Top count at expr) reply next is range step = stays P h next is step.0
+command_keeps P push asked h (commands.Approx word tolerance) reply next is range step = stays P h next is step.0
+command_keeps P push asked h (commands.Rough tolerance at expr) reply next is range step = stays P h next is step.0
+command_keeps P push asked h (commands.Best count at expr) reply next is range step = stays P h next is step.0
+command_keeps P push asked h (commands.Show doc at) reply next is range step = stays P h next is step.0
+command_keeps P push asked h (commands.Plan word kind fraction) reply next is range step = plans_keep P push h word kind fraction reply next is step
+command_keeps P push asked h (commands.Propose word fraction) reply next is range step = stays P h next is step.0
+command_keeps P push asked h (commands.Between span expr) reply next is range step = stays P h next is step.0
+command_keeps P push asked h (commands.Certificate word) reply next is range step = stays P h next is step.0
+command_keeps P push asked h commands.Verify reply next is range step = stays P h next is step.0
+command_keeps P push asked h (commands.Share factor words) reply next is range step = stays P h next is step.0
+command_keeps P push asked h to_come reply next is range step = stays P h next is step.0
 
 -- so every outcome leads from a legal history to a legal one,
 pub step_legal : (w : World) (item : Item) (reply : Reply) (next : World) → IsLegal w.history → HasDocument item → Step w item reply next → IsLegal next.history
-step_legal w (items.Command c) reply next legal range step = command_keeps IsLegal legal-push w.history c reply next.history legal range step
-step_legal w items.Line reply next legal range step = stays IsLegal w.history next.history legal step.0
+step_legal w (items.Command c) reply next legal range step = command_keeps IsLegal legal-push w.asked w.history c reply next.history legal range step.0
+step_legal w items.Line reply next legal range step = stays IsLegal w.history next.history legal step.0.0
 
 -- and from one that loads to one that loads
 pub step_loads : (w : World) (item : Item) (reply : Reply) (next : World) → IsLoadable w.history → HasDocument item → Step w item reply next → IsLoadable next.history
-step_loads w (items.Command c) reply next loads range step = command_keeps IsLoadable (λ h e is legal. loadable-push h e is (entry_loads h e legal)) w.history c reply next.history loads range step
-step_loads w items.Line reply next loads range step = stays IsLoadable w.history next.history loads step.0
+step_loads w (items.Command c) reply next loads range step = command_keeps IsLoadable (λ h e is legal. loadable-push h e is (entry_loads h e legal)) w.asked w.history c reply next.history loads range step.0
+step_loads w items.Line reply next loads range step = stays IsLoadable w.history next.history loads step.0.0
 
 -- a run goes on over any items whose documents are in range
 pub run_on : (w : World) (events : List Item) → IsLoadable w.history → All HasDocument events → (outcomes : List (Outcome Reply World)) × IsRun Step w events outcomes
@@ -410,6 +449,40 @@ one_neared h tolerance at query reply other a b =
     let read = one_read h 0 (2 ^ 40) (words_of query) a.1 b.1 a.3 b.3 in
     a.4 ∙ ap (λ (r : List Row). Neared r a.1) rows ∙ ap (λ (n : ℕ). Neared b.0 n) read ∙ sym b.4
 
+one_sheet_of : (h : History) (word : List ℕ) (plan : Option PlanEntry) (t : ℕ) (one other : Sheet) → IsSheetOf h word plan t one → IsSheetOf h word plan t other → one ≡ other
+one_sheet_of h word None t one other x y =
+    x.2 ∙ ap (sheet_laid Flat t []) (one_list_of (λ d t. frequency_at h word (record { 0 = d }) t) 0 (2 ^ 40) x.0 y.0 x.1 y.1) ∙ sym y.2
+one_sheet_of h word (Some plan) t one other x y =
+    let horizon = plan.horizon.seconds in
+    let sealed = one_list_of (λ d t. frequency_at h word (record { 0 = d }) t) 0 horizon x.0 y.0 x.2 y.2 in
+    x.4 ∙ ap₂ (λ (l k : List Posting). sheet_laid plan.layout t (sublist_at t horizon l (seconds plan.cuts)) k) sealed (one_tail h word (t + 1) horizon x.1 y.1 x.3 y.3) ∙ sym y.4
+
+-- first rows differ in how many blocks were opened alone
+one_best : (h : History) (count : BestCount) (at : Time) (query : Query) (reply other : Reply) → BestsBy h count at query reply → BestsBy h count at query other → SameButOpened reply other
+one_best h count at query reply other (rows, read, opened, blocks, answer, is_read, by, is) (rows2, read2, opened2, blocks2, answer2, is_read2, by2, is2) =
+    let same = one_answer (λ doc. IsSome (text_at h doc at.seconds)) (λ doc word. frequency_at h word doc at.seconds) query rows rows2 answer answer2 in
+    let reads = one_read h at.seconds (at.seconds + 1) (words_of query) read read2 is_read is_read2 in
+    let sheets = one_zip (λ word sheet. IsSheetOf h word (plan_of h word) at.seconds sheet) (λ w s r. one_sheet_of h w (plan_of h w) at.seconds s r) (words_of query) by.sheets by2.sheets by.sheets_are by2.sheets_are in
+    let all : blocks ≡ blocks2 = by.blocks_are ∙ ap (λ (ss : List Sheet). sum_by (λ (s : Sheet). length s.heads) ss) sheets ∙ sym by2.blocks_are in (
+      take count.number rows,
+      read,
+      opened,
+      opened2,
+      blocks,
+      is,
+      is2 ∙ sym (ap (λ (r : List Row). FoundBest (take count.number r) read2 opened2 blocks2) same) ∙ sym (ap₂ (λ (n m : ℕ). FoundBest (take count.number rows) n opened2 m) reads all),
+    )
+
+one_bests : (h : History) (count : BestCount) (at : Time) (text : List ℕ) (b : Bool) (reply other : Reply) → Bests b h count at text reply → Bests b h count at text other → SameButChosen reply other
+one_bests h count at text true reply other x y =
+    let F : Result Query ℕ → Type 0 = λ q. IsRepliedBy (BestsBy h count at) q reply in
+    go y.0 (subst F (one_reading term_of text x.0 y.0 x.1 y.1) x.2) y.2
+  where
+    go : (q : Result Query ℕ) → IsRepliedBy (BestsBy h count at) q reply → IsRepliedBy (BestsBy h count at) q other → SameButChosen reply other
+    go (Ok query) a b = inr (inr (one_best h count at query reply other a b))
+    go (Err place) a b = inl (a ∙ sym b)
+one_bests h count at text false reply other x y = inl (one_text IsNoDisjunction (λ query r s a b. a ∙ sym b) text reply other x y)
+
 one_spanned : (h : History) (span : Span) → IsOnly (SpansBy h span)
 one_spanned h span query reply other a b =
     let rows = longest.one row_kind plain-rows (scored_at (λ doc t. is_some (text_at h doc t)) (λ doc t word. frequency_at h word doc t) query) span.from span.to a.0 b.0 a.2 b.2 in
@@ -419,13 +492,13 @@ one_spanned h span query reply other a b =
 one_spans : (h : History) (span : Span) (text : List ℕ) (reply other : Reply) → Spans h span text reply → Spans h span text other → reply ≡ other
 one_spans h span text = one_text (SpansBy h span) (one_spanned h span) text
 
-one_proposes : (h : History) (phrase : List ℕ) (factor : Fraction) (reply other : Reply) → Proposes h phrase factor reply → Proposes h phrase factor other → SameButSegments reply other
+one_proposes : (h : History) (phrase : List ℕ) (factor : Fraction) (reply other : Reply) → Proposes h phrase factor reply → Proposes h phrase factor other → SameButChosen reply other
 one_proposes h phrase factor reply other =
-    one_phrase Guarantee h (SameButSegments reply other) (λ why. reply ≡ Refused why) (λ why. other ≡ Refused why) (λ word list. ProposesPlan factor (last_second h) list reply) (λ word list. ProposesPlan factor (last_second h) list other)
+    one_phrase Guarantee h (SameButChosen reply other) (λ why. reply ≡ Refused why) (λ why. other ≡ Refused why) (λ word list. ProposesPlan factor (last_second h) list reply) (λ word list. ProposesPlan factor (last_second h) list other)
     (λ why a b. inl (a ∙ sym b))
     (λ word list a b.
     let same = differ_in_segments list factor (last_second h) a.0 b.0 a.1 b.1 a.2 b.2 a.3 b.3 in
-    inr (a.0, b.0, a.1, a.2, a.4, b.4 ∙ ap (λ (ns : List Node). Proposed b.0 ns b.2) (sym same.0) ∙ ap (λ (n : ℕ). Proposed b.0 a.1 n) (sym same.1)))
+    inr (inl (a.0, b.0, a.1, a.2, a.4, b.4 ∙ ap (λ (ns : List Node). Proposed b.0 ns b.2) (sym same.0) ∙ ap (λ (n : ℕ). Proposed b.0 a.1 n) (sym same.1))))
     (one_term phrase)
 
 one_stays : (h : History) (reply other : Reply) (next then : History) → next ≡ h → then ≡ h → reply ≡ other → IsOne reply other next then
@@ -434,40 +507,48 @@ one_stays h reply other next then a b same = (same, a ∙ sym b)
 one_declines : (h : History) (why : Refusal) (reply other : Reply) (next then : History) → Declines h why reply next → Declines h why other then → IsOne reply other next then
 one_declines h why reply other next then a b = one_stays h reply other next then a.0 b.0 (a.1 ∙ sym b.1)
 
-same_outcome : {reply other : Reply} {next then : World} → (reply ≡ other) × (next ≡ then) → SameButSegments reply other × (next ≡ then)
+same_outcome : {reply other : Reply} {next then : World} → (reply ≡ other) × (next ≡ then) → SameButChosen reply other × (next ≡ then)
 same_outcome one = (inl one.0, one.1)
 
-one_command : (h : History) (c : Command) (reply other : Reply) (next then : History) → (IsChoice (items.Command c) → ⊥) → CarriesOut h c reply next → CarriesOut h c other then → IsOne reply other next then
-one_command h (commands.Arrive doc at (texts.Bytes text)) reply other next then free a b = one_adds h (entries.Arrive doc at text) (arrival_refusal h doc at text) reply other next then a b
-one_command h (commands.Arrive doc at (texts.TooLong bytes)) reply other next then free a b = one_declines h (refusals.TooLong most_text) reply other next then a b
-one_command h (commands.Delete doc at) reply other next then free a b = one_adds h (entries.Delete doc at) (deletion_refusal h doc at) reply other next then a b
-one_command h commands.Format reply other next then free a b = one_adds h entries.Format (mark_refusal h) reply other next then a b
-one_command h (commands.Batch batch) reply other next then free a b = one_batch h batch reply other next then a b
-one_command h (commands.Find at expr) reply other next then free a b = one_stays h reply other next then a.0 b.0 (one_finds h at expr reply other a.1 b.1)
-one_command h (commands.Top count at expr) reply other next then free a b = one_stays h reply other next then a.0 b.0 (one_tops h count at expr reply other a.1 b.1)
-one_command h (commands.Approx word tolerance) reply other next then free a b = one_stays h reply other next then a.0 b.0 (one_approximates h word tolerance reply other a.1 b.1)
-one_command h (commands.Rough tolerance at expr) reply other next then free a b = one_stays h reply other next then a.0 b.0 (one_text (NearsBy h tolerance at) (one_neared h tolerance at) expr reply other a.1 b.1)
-one_command h (commands.Show doc at) reply other next then free a b = one_stays h reply other next then a.0 b.0 (a.1 ∙ sym b.1)
-one_command h (commands.Plan word kind fraction) reply other next then free a b = absurd (free tt)
-one_command h (commands.Propose word fraction) reply other next then free a b = absurd (free tt)
-one_command h (commands.Between span expr) reply other next then free a b = one_stays h reply other next then a.0 b.0 (one_spans h span expr reply other a.1 b.1)
-one_command h (commands.Certificate word) reply other next then free a b = one_stays h reply other next then a.0 b.0 (one_certifies h word reply other a.1 b.1)
-one_command h commands.Verify reply other next then free a b =
+one_command : (asked : List Asking) (h : History) (c : Command) (reply other : Reply) (next then : History) → (IsChoice (items.Command c) → ⊥) → CarriesOut asked h c reply next → CarriesOut asked h c other then → IsOne reply other next then
+one_command asked h (commands.Arrive doc at (texts.Bytes text)) reply other next then free a b = one_adds h (entries.Arrive doc at text) (arrival_refusal h doc at text) reply other next then a b
+one_command asked h (commands.Arrive doc at (texts.TooLong bytes)) reply other next then free a b = one_declines h (refusals.TooLong most_text) reply other next then a b
+one_command asked h (commands.Delete doc at) reply other next then free a b = one_adds h (entries.Delete doc at) (deletion_refusal h doc at) reply other next then a b
+one_command asked h commands.Format reply other next then free a b = one_adds h entries.Format (mark_refusal h) reply other next then a b
+one_command asked h (commands.Batch batch) reply other next then free a b = one_batch h batch reply other next then a b
+one_command asked h (commands.Find at expr) reply other next then free a b = one_stays h reply other next then a.0 b.0 (one_finds h at expr reply other a.1 b.1)
+one_command asked h (commands.Top count at expr) reply other next then free a b = one_stays h reply other next then a.0 b.0 (one_tops h count at expr reply other a.1 b.1)
+one_command asked h (commands.Approx word tolerance) reply other next then free a b = one_stays h reply other next then a.0 b.0 (one_approximates h word tolerance reply other a.1 b.1)
+one_command asked h (commands.Rough tolerance at expr) reply other next then free a b = one_stays h reply other next then a.0 b.0 (one_text (NearsBy h tolerance at) (one_neared h tolerance at) expr reply other a.1 b.1)
+one_command asked h (commands.Best count at expr) reply other next then free a b = absurd (free tt)
+one_command asked h (commands.Show doc at) reply other next then free a b = one_stays h reply other next then a.0 b.0 (a.1 ∙ sym b.1)
+one_command asked h (commands.Plan word kind fraction) reply other next then free a b = absurd (free tt)
+one_command asked h (commands.Propose word fraction) reply other next then free a b = absurd (free tt)
+one_command asked h (commands.Between span expr) reply other next then free a b = one_stays h reply other next then a.0 b.0 (one_spans h span expr reply other a.1 b.1)
+one_command asked h (commands.Certificate word) reply other next then free a b = one_stays h reply other next then a.0 b.0 (one_certifies h word reply other a.1 b.1)
+one_command asked h commands.Verify reply other next then free a b =
     one_stays h reply other next then a.0 b.0 (a.1.2 ∙ ap Verified (one_verdict h a.1.0 b.1.0 a.1.1 b.1.1) ∙ sym b.1.2)
-one_command h to_come reply other next then free a b = one_declines h refusals.Line reply other next then a b
+one_command asked h (commands.Share factor words) reply other next then free a b = absurd (free tt)
+one_command asked h to_come reply other next then free a b = one_declines h refusals.Line reply other next then a b
 
 pub one_outcome_only : (w : World) (item : Item) (reply other : Reply) (next then : World) → (IsChoice item → ⊥) → Step w item reply next → Step w item other then → (reply ≡ other) × (next ≡ then)
-one_outcome_only w (items.Command c) reply other next then free a b = let one = one_command w.history c reply other next.history then.history free a b in (one.0, ap world_of one.1)
-one_outcome_only w items.Line reply other next then free a b = let one = one_declines w.history refusals.Line reply other next.history then.history a b in (one.0, ap world_of one.1)
+one_outcome_only w (items.Command c) reply other next then free a b =
+    let one = one_command w.asked w.history c reply other next.history then.history free a.0 b.0 in (one.0, one_world one.1 (one_noted w.asked c next.asked then.asked a.1 b.1))
+one_outcome_only w items.Line reply other next then free a b =
+    let one = one_declines w.history refusals.Line reply other next.history then.history a.0 b.0 in (one.0, one_world one.1 (a.1 ∙ sym b.1))
 
--- also where it may choose what is proposed, but for the segments
-pub one_but_segments : (w : World) (item : Item) (reply other : Reply) (next then : World) → (IsStoring item → ⊥) → Step w item reply next → Step w item other then → SameButSegments reply other × (next ≡ then)
-one_but_segments w (items.Command (commands.Propose word fraction)) reply other next then free a b = (one_proposes w.history word fraction reply other a.1 b.1, ap world_of (a.0 ∙ sym b.0))
-one_but_segments w (items.Command (commands.Plan word kind fraction)) reply other next then free a b = absurd (free tt)
-one_but_segments w item reply other next then free a b = same_outcome (one_outcome_only w item reply other next then (λ x. x) a b)
+-- also where it may choose what is proposed, but for the segments, and which blocks are opened, but for their number
+pub one_but_chosen : (w : World) (item : Item) (reply other : Reply) (next then : World) → (IsStoring item → ⊥) → (IsSharing item → ⊥) → Step w item reply next → Step w item other then → SameButChosen reply other × (next ≡ then)
+one_but_chosen w (items.Command (commands.Propose word fraction)) reply other next then free unshared a b =
+    (one_proposes w.history word fraction reply other a.0.1 b.0.1, one_world (a.0.0 ∙ sym b.0.0) (a.1 ∙ sym b.1))
+one_but_chosen w (items.Command (commands.Best count at expr)) reply other next then free unshared a b =
+    (one_bests w.history count at expr (asks_for_any expr) reply other a.0.1 b.0.1, one_world (a.0.0 ∙ sym b.0.0) (a.1 ∙ sym b.1))
+one_but_chosen w (items.Command (commands.Plan word kind fraction)) reply other next then free unshared a b = absurd (free tt)
+one_but_chosen w (items.Command (commands.Share factor words)) reply other next then free unshared a b = absurd (unshared tt)
+one_but_chosen w item reply other next then free unshared a b = same_outcome (one_outcome_only w item reply other next then (λ x. x) a b)
 
 -- what is told of two plans that an item may store
-told_same : {one other : Summary} {next then : World} → SameButSegments (Planned one) (Planned other) × (next ≡ then) → SamePlanned one other
+told_same : {one other : Summary} {next then : World} → SameButChosen (Planned one) (Planned other) × (next ≡ then) → SamePlanned one other
 told_same {one = one} {other = other} (inl same, on) =
     let here : one ≡ other = cc in
     record {
@@ -477,8 +558,10 @@ told_same {one = one} {other = other} (inl same, on) =
       cost = ap (λ (s : Summary). s.cost) here;
       space = λ none. ap (λ (s : Summary). s.space) here;
     }
-told_same {one = one} (inr (segments, others, nodes, total, is, are), on) = absurd cc
+told_same {one = one} (inr (inl (segments, others, nodes, total, is, are)), on) = absurd cc
+told_same {one = one} (inr (inr (rows, read, opened, others, blocks, is, are)), on) = absurd cc
 
 pub planned_alike : (w : World) (item : Item) (one other : Summary) (next then : World) → Step w item (Planned one) next → Step w item (Planned other) then → SamePlanned one other
-planned_alike w (items.Command (commands.Plan word kind fraction)) one other next then a b = plans_alike w.history word kind fraction one other next.history then.history a b
-planned_alike w item one other next then a b = told_same (one_but_segments w item (Planned one) (Planned other) next then (λ x. x) a b)
+planned_alike w (items.Command (commands.Plan word kind fraction)) one other next then a b = plans_alike w.history word kind fraction one other next.history then.history a.0 b.0
+planned_alike w (items.Command (commands.Share factor words)) one other next then a b = absurd (shares_nothing w.asked w.history words factor.fraction one a.0.1)
+planned_alike w item one other next then a b = told_same (one_but_chosen w item (Planned one) (Planned other) next then (λ x. x) (λ x. x) a b)

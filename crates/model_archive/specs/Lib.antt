@@ -1,4 +1,5 @@
 pub mod Answers
+pub mod Bests
 pub mod Bounds
 pub mod Choices
 pub mod Chosen
@@ -14,6 +15,7 @@ pub mod Replies
 pub mod Rough
 pub mod Rows
 pub mod Runs
+pub mod Sharing
 pub mod Standing
 pub mod Stands
 pub mod Steps

@@ -11,11 +11,12 @@ use Rattle.query_eval.specs.declared.answer.Row.{Row}
 use Rattle.query_eval.specs.declared.spans.SpanRow.{SpanRow}
 use Rattle.model_archive.specs.declared.refusal.Refusal.{Refusal}
 use Rattle.model_archive.specs.declared.refusal.Refusal.TheVariants as refusals
+use Rattle.model_archive.specs.declared.sharing.Share.{Share}
 use Rattle.model_archive.specs.declared.summary.Summary.{Summary}
 use Rattle.model_archive.specs.declared.verdict.Verdict.{Verdict}
 use Rattle.model_archive.specs.declared.verdict.Verdict.TheVariants.{Sound, Differs, NotLeast, BadText}
 use Rattle.model_archive.specs.Refusals.{number_of}
-use Rattle.model_archive.specs.Steps.{Reply, Accepted, Refused, RefusedIn, Found, Spanned, Approximated, Neared, Version, Proposed, Planned, Verified}
+use Rattle.model_archive.specs.Steps.{Reply, Accepted, Refused, RefusedIn, Found, FoundBest, Spanned, Approximated, Neared, Version, Proposed, Planned, Verified, Shared}
 
 -- the name of a limit in a reply
 abbrev pub which_text : Which → List ℕ
@@ -52,7 +53,7 @@ detail_text refusals.NotDisjunction = codes "NotDisjunction"
 abbrev pub refusal_text : Refusal → List ℕ
 refusal_text why = codes "no " ++ decimal (number_of why) ++ codes " " ++ detail_text why ++ 10 ∷ []
 
--- the line of a refusal for an item of a batch: the same, and the item's number
+-- the line of a refusal for an item of a batch or a word of a line: the same, and its number
 abbrev pub refusal_in_text : Refusal → ℕ → List ℕ
 refusal_in_text why index = codes "no " ++ decimal (number_of why) ++ codes " " ++ detail_text why ++ codes " in " ++ decimal index ++ 10
     ∷ []
@@ -74,6 +75,15 @@ end_text rows read = codes "end " ++ decimal rows ++ codes " read " ++ decimal r
 -- a line for each row, and the last line
 abbrev pub answer_text : List Row → ℕ → List ℕ
 answer_text rows read = flat_map row_text rows ++ end_text (length rows) read
+
+-- the last line of the first rows that are found by blocks: the same, and how many blocks were opened, of how many
+abbrev pub best_end_text : ℕ → ℕ → ℕ → ℕ → List ℕ
+best_end_text rows read opened blocks = codes "end " ++ decimal rows ++ codes " read " ++ decimal read ++ codes " opened " ++ decimal opened
+    ++ codes " of " ++ decimal blocks ++ 10 ∷ []
+
+-- a line for each row, and that line
+abbrev pub best_text : List Row → ℕ → ℕ → ℕ → List ℕ
+best_text rows read opened blocks = flat_map row_text rows ++ best_end_text (length rows) read opened blocks
 
 -- the same of rows over time
 abbrev pub spans_text : List SpanRow → ℕ → List ℕ
@@ -152,12 +162,26 @@ verdict_text (Differs word segment place found wanted) =
 verdict_text (NotLeast word taken least) = codes "notleast " ++ word ++ codes " " ++ decimal taken ++ codes " " ++ decimal least
 verdict_text (BadText doc at) = codes "badtext " ++ decimal doc.0 ++ codes " " ++ decimal at.seconds
 
+-- the line of a word's share: the word, what it is charged, and what its reads are expected to cost
+abbrev pub share_text : Share → List ℕ
+share_text s = codes "share " ++ s.word ++ codes " " ++ decimal s.taken.charge ++ codes " " ++ decimal s.taken.cost ++ 10 ∷ []
+
+-- the last line of shares: how many there are, the unit and the budget, and the cost of all
+abbrev pub budget_text : ℕ → ℕ → ℕ → ℕ → List ℕ
+budget_text words unit budget cost = codes "end " ++ decimal words ++ codes " unit " ++ decimal unit ++ codes " budget " ++ decimal budget
+    ++ codes " cost " ++ decimal cost ++ 10 ∷ []
+
+-- a line for each share, and the last line
+abbrev pub shared_text : List Share → ℕ → ℕ → ℕ → List ℕ
+shared_text shares unit budget cost = flat_map share_text shares ++ budget_text (length shares) unit budget cost
+
 -- the text of a reply
 abbrev pub reply_text : Reply → List ℕ
 reply_text (Accepted count) = codes "ok " ++ decimal count ++ 10 ∷ []
 reply_text (Refused why) = refusal_text why
 reply_text (RefusedIn why index) = refusal_in_text why index
 reply_text (Found rows read) = answer_text rows read
+reply_text (FoundBest rows read opened blocks) = best_text rows read opened blocks
 reply_text (Spanned rows read) = spans_text rows read
 reply_text (Approximated short full) = approximated_text short full
 reply_text (Neared rows read) = neared_text rows read
@@ -165,3 +189,4 @@ reply_text (Version text) = version_text text
 reply_text (Proposed segments nodes total) = proposal_text segments nodes total
 reply_text (Planned summary) = summary_text summary
 reply_text (Verified verdict) = verdict_text verdict ++ 10 ∷ []
+reply_text (Shared shares unit budget cost) = shared_text shares unit budget cost

@@ -1,5 +1,5 @@
 -- The machine that an archive is: what an item of the input does to a history, and what is replied.
-use Rattle.std.specs.Prelude.{◌≡◌, ◌⊎◌, ℕ, ◌+◌, ◌^◌, nat_lt, not, if◌then◌else◌, List, [], ◌∷◌, ◌++◌, length, take, Option, Some, None, unwrap_or, Result, Ok, Err}
+use Rattle.std.specs.Prelude.{◌≡◌, ◌⊎◌, ℕ, ◌+◌, ◌^◌, nat_lt, Bool, true, false, not, if◌then◌else◌, List, [], ◌∷◌, ◌++◌, length, take, Option, Some, None, unwrap_or, Result, Ok, Err}
 use Rattle.std.specs.List.{AllZip, flat_map}
 use Rattle.std.specs.Option.{option_map}
 use Rattle.std.specs.Str.{is_utf8}
@@ -23,6 +23,7 @@ use Rattle.base_commands.specs.declared.command.Item.{Item}
 use Rattle.base_commands.specs.declared.command.Item.TheVariants as items
 use Rattle.base_commands.specs.declared.command.Kind.{Kind}
 use Rattle.base_commands.specs.declared.command.Kind.TheVariants.{Guarantee}
+use Rattle.base_commands.specs.declared.count.BestCount.{BestCount}
 use Rattle.base_commands.specs.declared.count.TopCount.{TopCount}
 use Rattle.base_commands.specs.declared.text.Text.{Text}
 use Rattle.base_commands.specs.declared.text.Text.TheVariants as texts
@@ -39,11 +40,13 @@ use Rattle.journal_entries.specs.declared.plan.PlanEntry.{PlanEntry}
 use Rattle.pages_area.specs.Placing.{ArePlaced, HaveNoRoom}
 use Rattle.pages_sublists.specs.Preparing.{IsFor, extents, sizes, spellings}
 use Rattle.pages_sublists.specs.Segments.{seconds}
+use Rattle.plans_share.specs.declared.asked.Asking.{Asking}
 use Rattle.plans_kinds.specs.Plans.{IsGoodPlan, IsCostOf, later, plan_space}
 use Rattle.text_words.specs.Terms.{one_term}
 use Rattle.plans_kinds.specs.Proposals.{IsProposal, IsShown}
 use Rattle.plans_kinds.specs.declared.proposal.Node.{Node}
 use Rattle.plans_kinds.specs.declared.proposal.Segment.{Segment}
+use Rattle.query_lang.specs.Chains.{asks_for_any}
 use Rattle.query_lang.specs.Grammar.{Query, IsRead}
 use Rattle.query_lang.specs.Meaning.{words_of}
 use Rattle.query_lang.specs.Tokens.{term_of}
@@ -51,14 +54,17 @@ use Rattle.query_eval.specs.declared.answer.Row.{Row}
 use Rattle.query_eval.specs.declared.spans.SpanRow.{SpanRow}
 use Rattle.model_archive.specs.declared.refusal.Refusal.{Refusal}
 use Rattle.model_archive.specs.declared.refusal.Refusal.TheVariants as refusals
+use Rattle.model_archive.specs.declared.sharing.Share.{Share}
 use Rattle.model_archive.specs.declared.summary.Summary.{Summary}
 use Rattle.model_archive.specs.declared.verdict.Verdict.{Verdict}
 use Rattle.model_archive.specs.Histories.{History, act_refusal, entry_refusal, old_format, long_batch, most_batch, singles, end_of, text_at}
 use Rattle.model_archive.specs.Answers.{IsAnswerAt, IsSpanAnswerAt, IsWordList}
+use Rattle.model_archive.specs.Bests.{AreFoundByBlocks}
 use Rattle.model_archive.specs.Chosen.{IsReadFor}
 use Rattle.model_archive.specs.Planning.{OfPhrase, OfTerm, IsListUpTo, last_second}
 use Rattle.model_archive.specs.Plans.{live_extents, plan_of}
 use Rattle.model_archive.specs.Rough.{IsRoughAnswer}
+use Rattle.model_archive.specs.Sharing.{IsShared, Notes, OfPhrases}
 use Rattle.model_archive.specs.Verifying.{Verifies}
 use Rattle.model_archive.specs.Worlds.{World}
 
@@ -68,10 +74,12 @@ pub data Reply : Type 0 where
   Accepted : ℕ → Reply
   -- it is refused, and nothing changes
   Refused : Refusal → Reply
-  -- the same for an item of a batch, by its number, from 1
+  -- the same for an item of a batch, or for a word that was to share, by its number, from 1
   RefusedIn : Refusal → ℕ → Reply
   -- the rows that match, and how many postings were read for them
   Found : List Row → ℕ → Reply
+  -- the same, and how many blocks were opened for them, of how many
+  FoundBest : List Row → ℕ → ℕ → ℕ → Reply
   -- the same of a window of time
   Spanned : List SpanRow → ℕ → Reply
   -- the postings of an approximation, and how many the whole list has
@@ -86,6 +94,8 @@ pub data Reply : Type 0 where
   Planned : Summary → Reply
   -- the archive was checked by its texts
   Verified : Verdict → Reply
+  -- words' shares of a budget, how many postings its unit is, how many units it has, and what reads of all these words are expected to cost
+  Shared : List Share → ℕ → ℕ → ℕ → Reply
 
 -- the text has more bytes than a text may have
 abbrev pub too_long : List ℕ → Option Refusal
@@ -164,6 +174,23 @@ NearsBy history tolerance at query reply =
 abbrev pub Nears : History → Tolerance → Time → List ℕ → Reply → Type 0
 Nears history tolerance at text reply = IsReplied (NearsBy history tolerance at) text reply
 
+-- the first rows of what is found at a time by a query, as they are found by blocks
+abbrev pub BestsBy : History → BestCount → Time → Query → Reply → Type 0
+BestsBy history count at query reply =
+    (rows : List Row) × (read opened blocks : ℕ) × IsAnswerAt history at.seconds query rows
+    × IsReadFor history at.seconds (at.seconds + 1) (words_of query) read
+    × AreFoundByBlocks history at.seconds count.number query (take count.number rows) opened blocks
+    × (reply ≡ FoundBest (take count.number rows) read opened blocks)
+
+-- what a text that is a query is answered, where it doesn't ask for any of some words and for nothing else
+abbrev pub IsNoDisjunction : Query → Reply → Type 0
+IsNoDisjunction query reply = reply ≡ Refused refusals.NotDisjunction
+
+-- the same as the first rows, by a text; the first argument says that it asks for any of some words
+abbrev pub Bests : Bool → History → BestCount → Time → List ℕ → Reply → Type 0
+Bests true history count at text reply = IsReplied (BestsBy history count at) text reply
+Bests false history count at text reply = IsReplied IsNoDisjunction text reply
+
 -- what is found over a window of time by a query, in rows and postings read
 abbrev pub SpansBy : History → Span → Query → Reply → Type 0
 SpansBy history span query reply =
@@ -207,6 +234,12 @@ CertifiesLive history (Some plan) reply = CertifiesPlan history plan plan.kind r
 abbrev pub Certifies : History → List ℕ → Reply → Type 0
 Certifies history phrase reply = OfTerm history (one_term phrase) (λ why. reply ≡ Refused why)
     (λ word. CertifiesLive history (plan_of history word) reply)
+
+-- what is told of phrases that share a budget, by what was asked: one is refused, or a best choice for their words is told
+abbrev pub Shares : List Asking → History → List (List ℕ) → Fraction → Reply → Type 0
+Shares asked history phrases factor reply = OfPhrases history 1 phrases (λ number why. reply ≡ RefusedIn why number)
+    (λ words. (shares : List Share) × (unit budget cost : ℕ) × IsShared asked (last_second history) factor words shares unit budget cost
+    × (reply ≡ Shared shares unit budget cost))
 
 -- a command that is refused changes nothing
 abbrev pub Declines : History → Refusal → Reply → History → Type 0
@@ -337,25 +370,28 @@ abbrev pub Batches : History → BatchItems → Reply → History → Type 0
 Batches old (Items items) reply new = AddsBatch old (entries.Batch (flat_map act_of items)) (batch_cause old items) reply new
 Batches old (TooLong bytes) reply new = Declines old (unwrap_or (old_format old) (refusals.BatchTooLong most_batch)) reply new
 
--- from the old history, the archive may give this reply to the command and go on to the new one; a command to come is refused as a line that is none
-abbrev pub CarriesOut : History → Command → Reply → History → Type 0
-CarriesOut old (commands.Arrive doc at text) reply new = Arrives old doc at text reply new
-CarriesOut old (commands.Delete doc at) reply new = Adds old (entries.Delete doc at) (deletion_refusal old doc at) reply new
-CarriesOut old commands.Format reply new = Adds old entries.Format (mark_refusal old) reply new
-CarriesOut old (commands.Batch batch) reply new = Batches old batch reply new
-CarriesOut old (commands.Find at expr) reply new = (new ≡ old) × Finds old at expr reply
-CarriesOut old (commands.Top count at expr) reply new = (new ≡ old) × Tops old count at expr reply
-CarriesOut old (commands.Approx word tolerance) reply new = (new ≡ old) × Approximates old word tolerance reply
-CarriesOut old (commands.Rough tolerance at expr) reply new = (new ≡ old) × Nears old tolerance at expr reply
-CarriesOut old (commands.Show doc at) reply new = (new ≡ old) × (reply ≡ Version (text_at old doc at.seconds))
-CarriesOut old (commands.Plan word kind fraction) reply new = Plans old word kind fraction reply new
-CarriesOut old (commands.Propose word fraction) reply new = (new ≡ old) × Proposes old word fraction reply
-CarriesOut old (commands.Between span expr) reply new = (new ≡ old) × Spans old span expr reply
-CarriesOut old (commands.Certificate word) reply new = (new ≡ old) × Certifies old word reply
-CarriesOut old commands.Verify reply new = (new ≡ old) × ((verdict : Verdict) × Verifies old verdict × (reply ≡ Verified verdict))
-CarriesOut old to_come reply new = Declines old refusals.Line reply new
+-- from the old history, the archive may give this reply to the command and go on to the new one, by what was asked before; a command to come is
+-- refused as a line that is none
+abbrev pub CarriesOut : List Asking → History → Command → Reply → History → Type 0
+CarriesOut asked old (commands.Arrive doc at text) reply new = Arrives old doc at text reply new
+CarriesOut asked old (commands.Delete doc at) reply new = Adds old (entries.Delete doc at) (deletion_refusal old doc at) reply new
+CarriesOut asked old commands.Format reply new = Adds old entries.Format (mark_refusal old) reply new
+CarriesOut asked old (commands.Batch batch) reply new = Batches old batch reply new
+CarriesOut asked old (commands.Find at expr) reply new = (new ≡ old) × Finds old at expr reply
+CarriesOut asked old (commands.Top count at expr) reply new = (new ≡ old) × Tops old count at expr reply
+CarriesOut asked old (commands.Approx word tolerance) reply new = (new ≡ old) × Approximates old word tolerance reply
+CarriesOut asked old (commands.Rough tolerance at expr) reply new = (new ≡ old) × Nears old tolerance at expr reply
+CarriesOut asked old (commands.Best count at expr) reply new = (new ≡ old) × Bests (asks_for_any expr) old count at expr reply
+CarriesOut asked old (commands.Show doc at) reply new = (new ≡ old) × (reply ≡ Version (text_at old doc at.seconds))
+CarriesOut asked old (commands.Plan word kind fraction) reply new = Plans old word kind fraction reply new
+CarriesOut asked old (commands.Propose word fraction) reply new = (new ≡ old) × Proposes old word fraction reply
+CarriesOut asked old (commands.Between span expr) reply new = (new ≡ old) × Spans old span expr reply
+CarriesOut asked old (commands.Certificate word) reply new = (new ≡ old) × Certifies old word reply
+CarriesOut asked old commands.Verify reply new = (new ≡ old) × ((verdict : Verdict) × Verifies old verdict × (reply ≡ Verified verdict))
+CarriesOut asked old (commands.Share factor words) reply new = (new ≡ old) × Shares asked old words factor.fraction reply
+CarriesOut asked old to_come reply new = Declines old refusals.Line reply new
 
--- The step of the machine, over an item of the input: a command is carried out, and a line that is none is refused.
+-- The step of the machine, over an item of the input: a command is carried out and noted, and a line that is none is refused.
 abbrev pub Step : World → Item → Reply → World → Type 0
-Step old (items.Command command) reply new = CarriesOut old.history command reply new.history
-Step old items.Line reply new = Declines old.history refusals.Line reply new.history
+Step old (items.Command command) reply new = CarriesOut old.asked old.history command reply new.history × Notes old.asked command new.asked
+Step old items.Line reply new = Declines old.history refusals.Line reply new.history × (new.asked ≡ old.asked)

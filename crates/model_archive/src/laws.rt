@@ -7,7 +7,7 @@ ghost use Rattle.model_archive.specs.Histories.{History, end_of};
 ghost use Rattle.model_archive.specs.Legal.{IsLegal, IsLegalEntry, IsLoadable};
 ghost use Rattle.base_commands.specs.Documents.{HasDocument};
 ghost use Rattle.base_commands.specs.declared.command.Item.{Item};
-ghost use Rattle.model_archive.specs.Choices.{IsChoice, IsStoring, SameButSegments, SamePlanned};
+ghost use Rattle.model_archive.specs.Choices.{IsChoice, IsSharing, IsStoring, SameButChosen, SamePlanned};
 ghost use Rattle.model_archive.specs.declared.summary.Summary.{Summary};
 ghost use Rattle.model_archive.specs.Steps.{Reply, Planned, Step};
 ghost use Rattle.model_archive.specs.Runs.{Outcome};
@@ -26,9 +26,11 @@ pub fn a_history_is_legal_entry_by_entry()
     ensures end { (h : History) → end_of h ≡ length (front (bodies_of h)) + 1 }
 {}
 
-/// The abstract archive never gets stuck, and chooses nothing but which least plan it proposes, and
-/// which least or best plan it stores. From a history that loads each item has an outcome. It is the only
-/// one where no plan is asked for; two outcomes that propose a plan differ in its segments alone; and where
+/// The abstract archive never gets stuck, and chooses nothing but which least plan it proposes, which
+/// least or best plan it stores, how many blocks it opens, and which best choice it tells of words that
+/// share a budget. From a history that loads each item has an outcome. It is the only one where neither a
+/// plan nor a share nor rows by blocks are asked for; two outcomes that propose a plan differ in its
+/// segments alone, and two with first rows by blocks in how many were opened; and where
 /// two outcomes of one item each store a plan, their replies are the same but for the number of segments
 /// and, under a space bound, the space. (By its choice the one may find room in Pages where the other
 /// is refused.) Where the item's document is in range, an outcome leads from a history that loads to one
@@ -38,8 +40,8 @@ pub fn each_item_has_one_outcome()
         → (outcome : Outcome Reply World) × Step w item outcome.reply outcome.next }
     ensures one { (w : World) (item : Item) (reply other : Reply) (next then : World) → (IsChoice item → ⊥) → Step w item reply next
         → Step w item other then → (reply ≡ other) × (next ≡ then) }
-    ensures but_segments { (w : World) (item : Item) (reply other : Reply) (next then : World) → (IsStoring item → ⊥)
-        → Step w item reply next → Step w item other then → SameButSegments reply other × (next ≡ then) }
+    ensures but_chosen { (w : World) (item : Item) (reply other : Reply) (next then : World) → (IsStoring item → ⊥)
+        → (IsSharing item → ⊥) → Step w item reply next → Step w item other then → SameButChosen reply other × (next ≡ then) }
     ensures plans { (w : World) (item : Item) (one other : Summary) (next then : World) → Step w item (Planned one) next
         → Step w item (Planned other) then → SamePlanned one other }
     ensures loads { (w : World) (item : Item) (reply : Reply) (next : World) → IsLoadable w.history → HasDocument item

@@ -4,7 +4,7 @@
 //! where each entry may come after those before it (`specs/Legal.antt`). Of each word the plan stored
 //! last is live (`specs/Plans.antt`). An image of a disk stands for a legal history where its journal
 //! spells the entries (`specs/Stands.antt`) and its pages hold what the live plans need
-//! (`specs/Holding.antt`). An abstract archive, whose state has a history (`specs/Worlds.antt`),
+//! (`specs/Holding.antt`). An abstract archive, whose state has a history and what was asked (`specs/Worlds.antt`),
 //! carries out commands, one step after another (`specs/Steps.antt`), and each reply has a text
 //! (`specs/Replies.antt`). What a stopped run has acknowledged, and what the images that it left stand
 //! for, is said of any such machine (`specs/Runs.antt`).
@@ -12,6 +12,7 @@
 
 mod laws;
 mod refusal;
+mod sharing;
 mod stored;
 mod summary;
 mod verdict;
@@ -23,6 +24,7 @@ pub use laws::{
     what_is_made_of_held_pages_stands,
 };
 pub use refusal::Refusal;
+pub use sharing::{Share, Sharing};
 pub use stored::StoredPlan;
 pub use summary::Summary;
 pub use verdict::Verdict;

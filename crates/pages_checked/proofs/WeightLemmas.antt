@@ -5,7 +5,7 @@ use Rattle.std.specs.Map.{lookup, lookup_entry, remove_entry}
 use Rattle.std.proofs.lemmas.List.{take_all, take-append-drop}
 use Rattle.std.proofs.lemmas.List.Sums.{sum_by-cons, sum_by_more}
 use Rattle.std.proofs.lemmas.Option.{none-some, slice_get-get_or, slice_get_past}
-use Rattle.lru.specs.LruCache.{LruCache, last_entry, promoted, put_entries, displaced}
+use Rattle.lru.specs.LruCache.{LruCache, last_entry, put_entries, displaced}
 use Rattle.pages_checked.specs.Weights.{CheckedState, weight, weight_of_all}
 
 abbrev Place : Type 0
@@ -45,18 +45,6 @@ module _ (test : ℕ → Bool) where
   pub taken_out : (es : List (ℕ × CheckedState)) → weight_of_all (remove_entry test es) + weight_or (lookup test es) ≡ weight_of_all es
   taken_out [] = omega arith
   taken_out (e ∷ es) = out_of (test e.0) e es (remove_entry test es) (lookup test es) (taken_out es)
-
-  front : (es : List Place) (o : Option Place) → weight_of_all (remove_entry test es) + place_weight o ≡ weight_of_all es → weight_of_all (option_map_or (λ (e : Place). e ∷ remove_entry test es) o es) ≡ weight_of_all es
-  front es None h = refl
-  front es (Some e) h = omega (arith, h, one_more e (remove_entry test es))
-
-  same_weight : (o : Option Place) → weight_or (option_map (λ (e : Place). e.1) o) ≡ place_weight o
-  same_weight None = refl
-  same_weight (Some e) = refl
-
-  -- what is moved to the front takes what it took
-  pub moved : (es : List (ℕ × CheckedState)) → weight_of_all (promoted test es) ≡ weight_of_all es
-  moved es = front es (lookup_entry test es) (omega (arith, taken_out es, ap weight_or (with_key es), same_weight (lookup_entry test es)))
 
 last_of : (es : List Place) → (d : Place) → 0 < length es → weight_of_all (take (length es - 1) es) + place_weight (last_entry es) ≡ weight_of_all es
 last_of es d some =

@@ -1,15 +1,17 @@
 //! Bytes that are checked once.
-ghost use Rattle.std.specs.Prelude.{◌≡◌, ◌<◌, [], nat_eq, Some, None, IsTrue, IfOk, IfErr, IfSome, OnOk};
+ghost use Rattle.std.specs.Prelude.{◌≡◌, ◌<◌, [], nat_eq, Some, None, IsTrue, IsOk, IsSomeAnd, IfOk, IfErr, IfSome, OnOk};
 ghost use Rattle.std.specs.Map.{lookup, remove_entry};
 ghost use Rattle.pages_checked.specs.Checking.{IsChecked};
-ghost use Rattle.pages_checked.specs.Unchecked.{IsUnchecked};
-ghost use Rattle.pages_checked.specs.Weights.{IsLight};
+ghost use Rattle.pages_checked.specs.Unchecked.{HasOther, IsUnchecked};
+ghost use Rattle.pages_checked.specs.Weights.{AreBytes, IsLight};
+ghost use Rattle.sha2.specs.Sha256.{sha256};
 
 use crate::checked::Checked;
-use crate::error::CheckError;
+use crate::error::{CheckError, DigestError};
 use crate::known::Known;
 use base_types::{Extent, Posting};
 use journal_entries::Layout;
+use pages_codec::ListError;
 use std::alloc::{AllocError, Global};
 
 /// What gives the lists of bytes: it checks them, and remembers those that it checked, by the first page
@@ -48,44 +50,73 @@ impl Checker {
         ensures found { IfOk result (λ list. IsChecked layout digest.now bytes.now list.now) }
         ensures refused { IfErr result (IsUnchecked layout digest.now bytes.now) }
     {
-        if !self.is_newest(layout, digest, bytes) {
-            // Without memory it is forgotten.
-            let _ = self.put_away();
-            if self.knows(page, layout, digest, bytes) {
-                return match self.known.find(page) {
-                    Some(known) => Ok(known.list()),
-                    None => Err(CheckError::Memory),
-                };
-            }
-            match Checked::of(alloc, page, layout, digest, bytes) {
-                Ok(checked) => self.newest = Some(checked),
-                Err(error) => return Err(error),
-            }
+        match self.check_digest(alloc, page, layout, digest, bytes) {
+            Ok(()) => {}
+            Err(DigestError::Other { got }) => return Err(CheckError::Digest { got }),
+            Err(DigestError::Memory) => return Err(CheckError::Memory),
         }
-        match &self.newest {
-            Some(newest) => Ok(newest.list()),
+        let Some(newest) = &mut self.newest else {
+            return Err(CheckError::Memory);
+        };
+        match newest.read(alloc) {
+            Ok(()) => {}
+            Err(ListError::Form { .. }) => return Err(CheckError::Form),
+            Err(ListError::Memory) => return Err(CheckError::Memory),
+        }
+        match newest.list() {
+            Some(list) => Ok(list),
             None => Err(CheckError::Memory),
         }
     }
 
+    /// Checks that the bytes of the place at a page have the digest. Bytes that it remembers are compared,
+    /// and no digest is computed; else it costs the digest, and memory for them.
+    pub fn check_digest(
+        &mut self,
+        alloc: Global,
+        page: u32,
+        layout: Layout,
+        digest: &[u8; 32],
+        bytes: &[u8],
+    ) -> Result<(), DigestError>
+        ensures found { IsOk result → digest.now ≡ sha256 bytes.now }
+        ensures newest { IsOk result → IsSomeAnd self.new.newest (AreBytes layout digest.now bytes.now) }
+        ensures other { IfErr result (HasOther digest.now bytes.now) }
+    {
+        if !self.recalls(page, layout, digest, bytes) {
+            let checked = Checked::by_digest(alloc, page, layout, digest, bytes)?;
+            self.newest = Some(checked);
+        }
+        Ok(())
+    }
+
+    /// Whether these bytes were checked last, or were put away under the page, from where they come again.
+    fn recalls(&mut self, page: u32, layout: Layout, digest: &[u8; 32], bytes: &[u8]) -> bool
+        ensures newest { IsTrue result → IsSomeAnd self.new.newest (AreBytes layout digest.now bytes.now) }
+        ensures hashed { IsTrue result → digest.now ≡ sha256 bytes.now }
+    {
+        if self.is_newest(layout, digest, bytes) {
+            return true;
+        }
+        // Without memory it is forgotten.
+        let _ = self.put_away();
+        let Some(known) = self.known.take(page) else {
+            return false;
+        };
+        if !known.is(layout, digest, bytes) {
+            return false;
+        }
+        self.newest = Some(known);
+        true
+    }
+
     /// Whether they were checked last.
     fn is_newest(&self, layout: Layout, digest: &[u8; 32], bytes: &[u8]) -> bool
-        ensures { IsTrue result → IfSome self.now.newest (λ k. (k.layout ≡ layout) × (k.digest ≡ digest.now) × (k.bytes ≡ bytes.now)) }
+        ensures newest { IsTrue result → IsSomeAnd self.now.newest (AreBytes layout digest.now bytes.now) }
+        ensures hashed { IsTrue result → digest.now ≡ sha256 bytes.now }
     {
         match &self.newest {
             Some(newest) => newest.is(layout, digest, bytes),
-            None => false,
-        }
-    }
-
-    /// Whether they were put away under a page, which so is used last.
-    fn knows(&mut self, page: u32, layout: Layout, digest: &[u8; 32], bytes: &[u8]) -> bool
-        ensures { IsTrue result → IfSome (lookup (nat_eq page) self.new.known) (λ k. (k.layout ≡ layout) × (k.digest ≡ digest.now)
-            × (k.bytes ≡ bytes.now)) }
-    {
-        self.known.promote(page);
-        match self.known.find(page) {
-            Some(known) => known.is(layout, digest, bytes),
             None => false,
         }
     }
@@ -111,7 +142,7 @@ impl Checker {
     {
         let _ = self.put_away();
         if extent.bytes != 0 {
-            self.known.forget(extent.first);
+            let _ = self.known.take(extent.first);
         }
     }
 }

@@ -1,6 +1,6 @@
 //! Why bytes aren't checked.
 ghost use Rattle.std.specs.Prelude.{◌≡◌};
-ghost use Rattle.pages_checked.specs.declared.error.CheckError.{CheckError};
+ghost use Rattle.pages_checked.specs.declared.error.DigestError.{DigestError};
 
 use std::alloc::AllocError;
 
@@ -18,10 +18,22 @@ pub enum CheckError {
     Memory,
 }
 
-impl From<AllocError> for CheckError {
-    ghost from_gives = { λ _ e. e ≡ CheckError.Memory };
+/// Why bytes don't show a digest.
+#[derive(Clone, Copy, Debug)]
+pub enum DigestError {
+    /// Their SHA-256 is this one.
+    Other {
+        /// What the bytes have.
+        got: [u8; 32],
+    },
+    /// There was no memory.
+    Memory,
+}
 
-    fn from(_: AllocError) -> CheckError {
-        CheckError::Memory
+impl From<AllocError> for DigestError {
+    ghost from_gives = { λ _ e. e ≡ DigestError.Memory };
+
+    fn from(_: AllocError) -> DigestError {
+        DigestError::Memory
     }
 }

@@ -1,7 +1,6 @@
 //! What was checked and put away.
-ghost use Rattle.std.specs.Prelude.{◌≡◌, ◌+◌, ◌≤◌, ◌^◌, ◌++◌, ℕ, List, [], nat_eq, Some, option_copied, IfOk, OnOk};
+ghost use Rattle.std.specs.Prelude.{◌≡◌, ◌+◌, ◌≤◌, ◌^◌, ◌++◌, ℕ, List, [], nat_eq, Some, IfOk, OnOk};
 ghost use Rattle.std.specs.Map.{lookup, remove_entry};
-ghost use Rattle.lru.specs.LruCache.{promoted};
 ghost use Rattle.pages_checked.specs.Weights.{CheckedState, IsLight, weight_of_all};
 
 use crate::checked::{Checked, MOST_BYTES};
@@ -39,20 +38,6 @@ impl Known {
         })
     }
 
-    /// What was put away under a page.
-    pub(crate) fn find(&self, page: u32) -> Option<&Checked>
-        ensures { option_copied result ≡ lookup (nat_eq page) self.now }
-    {
-        self.places.peek(&page)
-    }
-
-    /// Moves what was put away under a page to the front.
-    pub(crate) fn promote(&mut self, page: u32)
-        ensures { self.new ≡ promoted (nat_eq page) self.old }
-    {
-        self.places.promote(&page);
-    }
-
     /// Puts what was checked in front, in the place of what was put away under its page, if it is light
     /// enough; what was used longest ago makes room for it.
     pub(crate) fn put(&mut self, checked: Checked) -> Result<(), AllocError>
@@ -66,17 +51,22 @@ impl Known {
         let old = self.places.push(checked.page(), checked)?;
         self.size += weight;
         if let Some((_, old)) = old {
-            self.size -= old.weight();
+            self.size -= old.free();
         }
         Ok(())
     }
 
-    /// Forgets what was put away under a page.
-    pub(crate) fn forget(&mut self, page: u32)
-        ensures { self.new ≡ remove_entry (nat_eq page) self.old }
+    /// Takes out what was put away under a page.
+    pub(crate) fn take(&mut self, page: u32) -> Option<Checked>
+        ensures taken { result ≡ lookup (nat_eq page) self.old }
+        ensures left { self.new ≡ remove_entry (nat_eq page) self.old }
     {
-        if let Some(old) = self.places.pop(&page) {
-            self.size -= old.weight();
+        match self.places.pop(&page) {
+            Some(old) => {
+                self.size -= old.weight();
+                Some(old)
+            }
+            None => None,
         }
     }
 
@@ -91,7 +81,7 @@ impl Known {
     {
         'places: while self.size > MOST_BYTES - weight {
             match self.places.pop_lru() {
-                Some((_, oldest)) => self.size -= oldest.weight(),
+                Some((_, oldest)) => self.size -= oldest.free(),
                 None => return,
             }
         }

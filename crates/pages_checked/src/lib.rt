@@ -13,5 +13,5 @@ mod known;
 mod spelling;
 
 pub use checker::Checker;
-pub use error::CheckError;
+pub use error::{CheckError, DigestError};
 pub use spelling::encoded;

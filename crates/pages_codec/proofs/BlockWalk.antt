@@ -40,7 +40,7 @@ head_back (b ∷ bytes) fits long =
       rest_fits = last.rest_fits;
     }
 
-head_again : (h : Head) (rest : List ℕ) → h.size < 2 ^ 16 → h.top < 2 ^ 32 → h.first < 2 ^ 32 → h.last < 2 ^ 32 → head_front (head_bytes h ++ rest) ≡ (h, rest)
+pub head_again : (h : Head) (rest : List ℕ) → h.size < 2 ^ 16 → h.top < 2 ^ 32 → h.first < 2 ^ 32 → h.last < 2 ^ 32 → head_front (head_bytes h ++ rest) ≡ (h, rest)
 head_again h rest size_fits top_fits first_fits last_fits =
     let size = number_again w16 (2 ^ 16) wide16 h.size (to_be_bytes w32 h.top ++ (to_be_bytes w32 h.first ++ (to_be_bytes w32 h.last ++ rest))) size_fits in
     let top = number_again w32 (2 ^ 32) wide32 h.top (to_be_bytes w32 h.first ++ (to_be_bytes w32 h.last ++ rest)) top_fits in
@@ -122,18 +122,18 @@ block_reads before bytes fits =
     (λ f. (let h = head_back bytes fits (ltb-false (length bytes) 15 e) in body_reads before bytes front.0 front.1 h.first_fits h.rest_fits h.parts (lead_is before front.0 (length front.1) f)))
     (λ f. reads_err _ _ (length bytes) (omega arith)))
 
-block_long : (ps : List Fields) (rest : List ℕ) → 15 + length rest ≤ length (block ps ++ rest)
+pub block_long : (ps : List Fields) (rest : List ℕ) → 15 + length rest ≤ length (block ps ++ rest)
 block_long ps rest = omega (arith, length-append (block ps) rest, length-append (head_bytes (head_for ps)) (inside ps))
 
 -- what is left behind a block
 pub block_rest : (before : Option Fields) (bytes : List ℕ) (x : List Fields × List ℕ) → IsBytes bytes → block_at before bytes ≡ Ok x → (length x.1 < length bytes) × IsBytes x.1
 block_rest before bytes x fits e = let is = (block_reads before bytes fits).read x e in (omega (arith, block_long x.0 x.1, ap (λ (bs : List ℕ). length bs) is.parts), is.rest_fits)
 
-top_below : (top : ℕ) (before : Option Fields) (ps : List Fields) → top < 2 ^ 32 → AreNext before ps → top_of top ps < 2 ^ 32
+pub top_below : (top : ℕ) (before : Option Fields) (ps : List Fields) → top < 2 ^ 32 → AreNext before ps → top_of top ps < 2 ^ 32
 top_below top before [] lt next = lt
 top_below top before (p ∷ ps) lt next = top_below (max top p.tf) (Some p) ps (omega (arith, next.0.allowed.bounded)) next.1
 
-last_below : (doc : ℕ) (before : Option Fields) (ps : List Fields) → doc < 2 ^ 32 → AreNext before ps → last_doc doc ps < 2 ^ 32
+pub last_below : (doc : ℕ) (before : Option Fields) (ps : List Fields) → doc < 2 ^ 32 → AreNext before ps → last_doc doc ps < 2 ^ 32
 last_below doc before [] lt next = lt
 last_below doc before (p ∷ ps) lt next = last_below p.doc (Some p) ps next.0.allowed.numbered next.1
 
@@ -182,7 +182,7 @@ block_again before p ps rest from most full =
 
 -- ---- blocks in a row
 
-pieces_none : (most : ℕ) → pieces most [] ≡ []
+pub pieces_none : (most : ℕ) → pieces {A = Fields} most [] ≡ []
 pieces_none zero = refl
 pieces_none (suc most) = refl
 

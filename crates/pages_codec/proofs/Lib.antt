@@ -12,3 +12,4 @@ mod BlockLaws
 mod BlockWalk
 pub mod BlockCodec
 mod FrameLemmas
+pub mod FramedLemmas

@@ -69,8 +69,8 @@ head_for ps = record { count = length ps; size = length (inside ps); top = top_o
 abbrev pub block : List Fields → List ℕ
 block ps = head_bytes (head_for ps) ++ inside ps
 
--- postings in pieces of 128, the last of what is left
-abbrev pub pieces : ℕ → List Fields → List (List Fields)
+-- a list in pieces of 128, the last of what is left
+abbrev pub pieces : {A : Type 0} → ℕ → List A → List (List A)
 pieces most [] = []
 pieces zero (p ∷ ps) = []
 pieces (suc most) (p ∷ ps) = take 128 (p ∷ ps) ∷ pieces most (drop 128 (p ∷ ps))

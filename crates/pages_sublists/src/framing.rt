@@ -14,25 +14,34 @@ ghost use Rattle.pages_sublists.specs.Framing.{IsFramed, IsUnframed, IsOpened, I
 use crate::fetching::{Bounds, first_astray};
 use crate::why::{Damage, FetchError, Why};
 use base_types::{Posting, Span, Time};
-use journal_entries::Place;
+use journal_entries::{Layout, Place};
 use machine_model::{Area, Disk};
 use pages_area::{PageCache, PageError};
+use pages_checked::{Checker, DigestError};
 use pages_codec::{Frames, ListError};
-use sha2::{Digest, Sha256};
 use std::alloc::Global;
 
-/// The headers that bytes of a place have, if they have its digest.
-fn framed(alloc: Global, place: &Place, bytes: Vec<u8>) -> Result<Frames, FetchError>
+/// The headers that bytes of a place have, if they have its digest. It costs the digest where the checker
+/// doesn't remember the bytes.
+fn framed(
+    checker: &mut Checker,
+    alloc: Global,
+    place: &Place,
+    bytes: Vec<u8>,
+) -> Result<Frames, FetchError>
     ensures found { IfOk result (λ f. IsFramed place.now.digest bytes.items f) }
     ensures failed { IfErr result (IfFailed ⊥) }
     ensures damaged { IfErr result (IfDamaged (λ d. (d.page ≡ place.now.extent.first) × IsUnframed place.now.digest bytes.items d.why)) }
 {
     let page = place.extent.first;
-    let got = Sha256::digest(&bytes);
-    if got != place.digest {
-        let stored = place.digest;
-        let why = Why::Digest { stored, got };
-        return Err(FetchError::Damaged(Damage { page, why }));
+    match checker.check_digest(alloc, page, Layout::Blocks, &place.digest, &bytes) {
+        Ok(()) => {}
+        Err(DigestError::Other { got }) => {
+            let stored = place.digest;
+            let why = Why::Digest { stored, got };
+            return Err(FetchError::Damaged(Damage { page, why }));
+        }
+        Err(DigestError::Memory) => return Err(FetchError::Memory),
     }
     match Frames::read(alloc, bytes) {
         Ok(frames) => Ok(frames),
@@ -47,6 +56,7 @@ fn framed(alloc: Global, place: &Place, bytes: Vec<u8>) -> Result<Frames, FetchE
 /// Asks for the bytes of a place, and gives the headers that they have.
 pub(crate) fn frames_of<D: Disk>(
     cache: &mut PageCache,
+    checker: &mut Checker,
     alloc: Global,
     disk: &mut D,
     place: &Place,
@@ -81,7 +91,7 @@ pub(crate) fn frames_of<D: Disk>(
         Err(PageError::Failed) => return Err(FetchError::Failed),
         Err(PageError::Memory) => return Err(FetchError::Memory),
     }
-    framed(alloc, place, bytes)
+    framed(checker, alloc, place, bytes)
 }
 
 /// The postings of a block of the place that begins at a page, if the block is one and they belong to a

@@ -64,7 +64,8 @@ impl Sublists {
     }
 
     /// Reads the bytes of a place that is spelled in blocks, and gives the headers of these. Pages that are
-    /// kept are not read again. It costs the digest of the bytes, and constant time a block.
+    /// kept are not read again. It costs the digest of the bytes where they aren't remembered, as for
+    /// `gather`, and constant time a block.
     pub fn fetch_frames<D: Disk>(
         &mut self,
         alloc: Global,
@@ -95,6 +96,6 @@ impl Sublists {
         ensures lie { (taken : List PlainExtent) → ((p : ℕ) → IsPageOf place.now.extent p → IsTaken taken p) → LieIn taken self.old.cache
             → LieIn taken self.new.cache }
     {
-        frames_of(&mut self.cache, alloc, disk, place)
+        frames_of(&mut self.cache, &mut self.checker, alloc, disk, place)
     }
 }

@@ -4,26 +4,25 @@ use Rattle.std.proofs.Common.{arith, ap, sym, ◌∙◌, subst}
 use Rattle.std.proofs.lemmas.List.{append_assoc}
 use Rattle.plans_space.specs.Steps.{IsLeastOf, IsLeast}
 use Rattle.plans_space.proofs.LeastLemmas.{Begins, behind_of}
-use Rattle.plans_share.specs.Choices.{picked}
+use Rattle.plans_share.specs.Choices.{Offered, picked}
 use Rattle.plans_share.specs.Steps.{IsWithin, IsSettled, IsBestPick, through}
-use Rattle.plans_share.specs.declared.offer.Offer.{Offer}
 use Rattle.plans_share.specs.declared.steps.Pick.{Pick}
 use Rattle.plans_share.proofs.Cells.{cost_of, by_pick, cell_by}
 
 -- the picks so far: some rest of them keeps what is left, and any such rest that costs no more may be taken
-pub record IsUnderway (offers : List Offer) (budget most : ℕ) (picks : List ℕ) (ahead : List Offer) (left : ℕ) : Type 0 where
+pub record IsUnderway (offers : List Offered) (budget most : ℕ) (picks : List ℕ) (ahead : List Offered) (left : ℕ) : Type 0 where
   pub within : left ≤ budget
   pub path : List ℕ
   pub is : IsWithin ahead left path
   pub goes_on : (rest : List ℕ) → IsWithin ahead left rest → cost_of ahead rest ≤ cost_of ahead path → IsWithin offers budget (picks ++ rest) × (cost_of offers (picks ++ rest) ≤ most)
 
-module _ (offer : Offer) (rest : List Offer) (width : ℕ) (below : List (Option ℕ)) (s : IsSettled rest width below) (left : ℕ) (w : left < width) where
+module _ (offer : Offered) (rest : List Offered) (width : ℕ) (below : List (Option ℕ)) (s : IsSettled rest width below) (left : ℕ) (w : left < width) where
   -- where there is a way there is a best pick
-  pub way_on : (path : List ℕ) → IsWithin (offer ∷ rest) left path → (next : Option Pick) → IsBestPick (λ k. through below (picked offer k) left) (length offer.front.items + 1) next → IsSome next
+  pub way_on : (path : List ℕ) → IsWithin (offer ∷ rest) left path → (next : Option Pick) → IsBestPick (λ k. through below (picked offer k) left) (length offer.front + 1) next → IsSome next
   way_on path p None b = absurd (cell_by offer rest width below s left w None b path p)
   way_on path p (Some next) b = refl
 
-  pub walk-more : (offers : List Offer) (budget most : ℕ) (picks new : List ℕ) (next : Pick) (charge : ℕ) → IsBestPick (λ k. through below (picked offer k) left) (length offer.front.items + 1) (Some next)
+  pub walk-more : (offers : List Offered) (budget most : ℕ) (picks new : List ℕ) (next : Pick) (charge : ℕ) → IsBestPick (λ k. through below (picked offer k) left) (length offer.front + 1) (Some next)
       → charge ≡ (picked offer next.pick).charge → new ≡ picks ++ next.pick ∷ [] → IsUnderway offers budget most picks (offer ∷ rest) left
       → (charge ≤ left) × IsUnderway offers budget most new rest (left - charge)
   walk-more offers budget most picks new next charge (to, is, low) e f u = go (behind_of (λ z. IsWithin (offer ∷ rest) left (next.pick ∷ z)) (cost_of (offer ∷ rest)) next.pick next.cost leg)

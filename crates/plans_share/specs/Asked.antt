@@ -7,9 +7,18 @@ use Rattle.plans_share.specs.declared.asked.Asking.{Asking}
 abbrev pub asked_in : List Asking → List ℕ → ℕ → ℕ → ℕ
 asked_in pairs word a b = count_by (λ p. bytes_eq p.word word && (nat_le a p.at.seconds && nat_lt p.at.seconds b)) pairs
 
+-- The pair of a time and a word.
+abbrev pub asking : Time → List ℕ → Asking
+asking at word = record { word = word; at = at }
+
 -- The pairs with one more, of which the first 2^20 are kept.
 abbrev pub noted : List Asking → List ℕ → Time → List Asking
-noted pairs word at = if nat_lt (length pairs) 1048576 then pairs ++ (record { word = word; at = at }) ∷ [] else pairs
+noted pairs word at = if nat_lt (length pairs) 1048576 then pairs ++ asking at word ∷ [] else pairs
+
+-- The pairs with a time and each of some words, one after another.
+abbrev pub noted_all : List Asking → List (List ℕ) → Time → List Asking
+noted_all pairs [] at = pairs
+noted_all pairs (word ∷ words) at = noted_all (noted pairs word at) words at
 
 -- the times of a word's pairs, in seconds
 abbrev pub seconds_of : List ℕ → List Asking → List ℕ

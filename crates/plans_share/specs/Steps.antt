@@ -3,31 +3,30 @@ use Rattle.std.specs.Prelude.{◌≡◌, ℕ, ◌-◌, ◌*◌, ◌^◌, ◌<◌
 use Rattle.std.specs.Global.{Global}
 use Rattle.plans_space.specs.declared.point.Point.{Point}
 use Rattle.plans_space.specs.Steps.{IsLeast, IsNoWay, IsBestWay, plus}
-use Rattle.plans_share.specs.Choices.{ArePicks, total}
-use Rattle.plans_share.specs.declared.offer.Offer.{Offer}
+use Rattle.plans_share.specs.Choices.{ArePicks, Offered, total}
 use Rattle.plans_share.specs.declared.steps.Pick.{Pick}
 
 -- the costs of an offer are below 2^100
-pub record AreCheap (offer : Offer) : Type 0 where
+pub record AreCheap (offer : Offered) : Type 0 where
   pub whole : offer.whole.cost < 2 ^ 100
-  pub front : All (λ p. p.cost < 2 ^ 100) offer.front.items
+  pub front : All (λ p. p.cost < 2 ^ 100) offer.front
 
 -- picks that are charged at most so much
-abbrev pub IsWithin : List Offer → ℕ → List ℕ → Type 0
+abbrev pub IsWithin : List Offered → ℕ → List ℕ → Type 0
 IsWithin offers most picks = ArePicks offers picks × (total (λ p. p.charge) offers picks ≤ most)
 
 -- the least cost of picks that are charged at most c, where there are any
-abbrev pub IsCell : List Offer → ℕ → Option ℕ → Type 0
+abbrev pub IsCell : List Offered → ℕ → Option ℕ → Type 0
 IsCell offers c = IsLeast (IsWithin offers c) (total (λ p. p.cost) offers)
 
 -- the least costs by charge, below the width
-pub record IsSettled (offers : List Offer) (width : ℕ) (row : List (Option ℕ)) : Type 0 where
+pub record IsSettled (offers : List Offered) (width : ℕ) (row : List (Option ℕ)) : Type 0 where
   pub long : length row ≡ width
   pub each : (c : ℕ) → c < width → IsCell offers c (slice_index_or row c None)
   pub small : All (λ v. IfSome v (λ w. w ≤ length offers * 2 ^ 100)) row
 
 -- the rows of the last offers, of none first; n of them
-pub record AreRows (offers : List Offer) (width : ℕ) (rows : List (Vec (Option ℕ) Global)) (n : ℕ) : Type 0 where
+pub record AreRows (offers : List Offered) (width : ℕ) (rows : List (Vec (Option ℕ) Global)) (n : ℕ) : Type 0 where
   pub long : length rows ≡ n
   pub each : (i : ℕ) (row : Vec (Option ℕ) Global) → i < n → IsSettled (drop (length offers - i) offers) width (get_or rows i row).items
 

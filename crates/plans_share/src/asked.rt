@@ -1,8 +1,8 @@
 //! The times that were asked for, by word.
-ghost use Rattle.std.specs.Prelude.{◌≡◌, ◌≤◌, ◌^◌, ℕ, nat_lt, count_by, List, [], length, IfOk, OnOk, IsErr};
+ghost use Rattle.std.specs.Prelude.{◌≡◌, ◌≤◌, ◌^◌, ℕ, nat_lt, count_by, List, [], length, map, IfOk, OnOk, IsErr};
 ghost use Rattle.std.specs.List.Sorted.{IsSorted, IsPermutation};
 ghost use Rattle.std.specs.Ordering.{nat_cmp};
-ghost use Rattle.plans_share.specs.Asked.{asked_in, count_in, noted, seconds_of};
+ghost use Rattle.plans_share.specs.Asked.{asked_in, asking, count_in, noted, noted_all, seconds_of};
 
 use base_types::{Key, Span, Time};
 use std::alloc::{AllocError, Global};
@@ -60,6 +60,18 @@ impl Asked {
         Ok(())
     }
 
+    /// Notes a time with each of some words, one after another, as `note` does. An error leaves all as it
+    /// was. Costs the words' length.
+    pub fn note_all(&mut self, alloc: Global, words: &[Key], at: Time) -> Result<(), AllocError>
+        ensures noted { OnOk result (self.new ≡ noted_all self.old words.now at) }
+        ensures kept { IsErr result → self.new ≡ self.old }
+    {
+        let mut fresh = askings(alloc, words, at)?;
+        fresh.truncate(MOST_ASKED - self.pairs.len());
+        self.pairs.append(&mut fresh)?;
+        Ok(())
+    }
+
     /// How many pairs of the word have a time that the span holds. One pass over the pairs.
     pub fn count(&self, word: &Key, span: Span) -> u64
         ensures value { result ≡ asked_in self.now word.now span.from span.to }
@@ -73,7 +85,8 @@ impl Asked {
 
     /// The times of a word's pairs. One pass over the pairs, and time in `n log n` for the word's `n`.
     pub fn times(&self, alloc: Global, word: &Key) -> Result<Times, AllocError>
-        ensures { IfOk result (λ t. (a b : ℕ) → count_in a b t ≡ asked_in self.now word.now a b) }
+        ensures counts { IfOk result (λ t. (a b : ℕ) → count_in a b t ≡ asked_in self.now word.now a b) }
+        ensures few { IfOk result (λ t. length t ≤ 2 ^ 20) }
     {
         let seconds = self.seconds_of(alloc, word)?;
         Ok(Times {
@@ -91,6 +104,18 @@ impl Asked {
             .map(|p| p.at.seconds)
             .collect(alloc)
     }
+}
+
+/// A time with each of some words.
+fn askings(alloc: Global, words: &[Key], at: Time) -> Result<Vec<Asking>, AllocError>
+    ensures { IfOk result (λ v. v.items ≡ map (asking at) words.now) }
+{
+    let mut askings = Vec::new(alloc);
+    for word in words {
+        let word = word.clone()?;
+        askings.push(Asking { word, at })?;
+    }
+    Ok(askings)
 }
 
 /// The numbers, ascending.

@@ -25,7 +25,7 @@ pub(crate) fn cost_of_wholes(offers: &[Offer]) -> u128
 {
     let mut cost = 0u128;
     for offer in offers {
-        cost += offer.whole.cost;
+        cost += offer.whole().cost;
     }
     cost
 }
@@ -40,7 +40,7 @@ pub(crate) fn picks_along(
 ) -> Result<Vec<usize>, AllocError>
     requires few { length offers.now ≤ 16 }
     requires small { budget ≤ 4096 }
-    requires fronts { All (λ o. length o.front.items ≤ 4097) offers.now }
+    requires fronts { All (λ o. length o.front ≤ 4097) offers.now }
     requires cheap { All AreCheap offers.now }
     requires rows { AreRows offers.now (budget + 1) rows.now (length offers.now + 1) }
     requires cost { IsCell offers.now budget (Some cost) }

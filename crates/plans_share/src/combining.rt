@@ -15,7 +15,7 @@ use std::alloc::{AllocError, Global};
 pub fn combine(alloc: Global, offers: &[Offer], budget: u64) -> Result<Choice, AllocError>
     requires few { length offers.now ≤ 16 }
     requires small { budget ≤ 4096 }
-    requires fronts { All (λ o. length o.front.items ≤ 4097) offers.now }
+    requires fronts { All (λ o. length o.front ≤ 4097) offers.now }
     requires cheap { All AreCheap offers.now }
     ensures best { IfOk result (λ c. IsBestChoice offers.now budget c.picks.items) }
     ensures cost { IfOk result (λ c. c.cost ≡ total (λ p. p.cost) offers.now c.picks.items) }

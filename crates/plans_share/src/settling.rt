@@ -14,7 +14,7 @@ pub(crate) fn settle(
 ) -> Result<Vec<Vec<Option<u128>>>, AllocError>
     requires few { length offers.now ≤ 16 }
     requires small { budget ≤ 4096 }
-    requires fronts { All (λ o. length o.front.items ≤ 4097) offers.now }
+    requires fronts { All (λ o. length o.front ≤ 4097) offers.now }
     requires cheap { All AreCheap offers.now }
     ensures { IfOk result (λ v. AreRows offers.now (budget + 1) v.items (length offers.now + 1)) }
 {

@@ -3,7 +3,7 @@ ghost use Rattle.std.specs.Prelude.{◌≡◌, ◌∷◌, ℕ, ◌+◌, ◌<◌,
 ghost use Rattle.plans_space.specs.Steps.{lesser};
 ghost use Rattle.plans_share.specs.Choices.{picked};
 ghost use Rattle.plans_share.specs.Steps.{AreCheap, IsSettled, IsBestPick, through};
-ghost use Rattle.plans_share.specs.declared.offer.Offer.{Offer as PlainOffer};
+ghost use Rattle.plans_share.specs.Choices.{Offered};
 
 use crate::offer::Offer;
 use plans_space::Point;
@@ -71,14 +71,14 @@ pub(crate) fn row(
     below: &[Option<u128>],
     offer: &Offer,
 ) -> Result<Vec<Option<u128>>, AllocError>
-    requires few { length offer.now.front.items ≤ 4097 }
+    requires few { length offer.now.front ≤ 4097 }
     requires cheap { AreCheap offer.now }
     requires below { All (λ v. IfSome v (λ w. w ≤ 2 ^ 110)) below.now }
-    ensures { IfOk result (λ v. (rest : List PlainOffer) → IsSettled rest (length below.now) below.now
+    ensures { IfOk result (λ v. (rest : List Offered) → IsSettled rest (length below.now) below.now
         → IsSettled (offer.now ∷ rest) (length below.now) v.items) }
 {
     let mut row = vec![in alloc; None; below.len()]?;
-    for pick in 0..offer.front.len() + 1 {
+    for pick in 0..offer.front().len() + 1 {
         row = lowered(row, below, offer.point(pick));
     }
     Ok(row)
@@ -107,13 +107,13 @@ fn better(best: Option<Pick>, pick: usize, cost: Option<u128>) -> Option<Pick>
 /// The best pick of an offer for at most the charge `c`; None where there is none.
 pub(crate) fn best_pick(below: &[Option<u128>], offer: &Offer, c: usize) -> Option<Pick>
     requires inside { c < length below.now }
-    requires few { length offer.now.front.items ≤ 4097 }
+    requires few { length offer.now.front ≤ 4097 }
     requires cheap { AreCheap offer.now }
     requires below { All (λ v. IfSome v (λ w. w ≤ 2 ^ 110)) below.now }
-    ensures { IsBestPick (λ k. through below.now (picked offer.now k) c) (length offer.now.front.items + 1) result }
+    ensures { IsBestPick (λ k. through below.now (picked offer.now k) c) (length offer.now.front + 1) result }
 {
     let mut best = None;
-    for pick in 0..offer.front.len() + 1 {
+    for pick in 0..offer.front().len() + 1 {
         best = better(best, pick, through(below, offer.point(pick), c));
     }
     best

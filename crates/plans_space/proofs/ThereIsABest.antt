@@ -1,16 +1,19 @@
--- There is a best partition under a space bound.
-use Rattle.std.specs.Prelude.{◌≡◌, ◌⊎◌, ℕ, zero, suc, ◌+◌, ◌-◌, ◌*◌, ◌<◌, ◌≤◌, Option, Some, None, List, [], ◌∷◌, length, slice_index, refl}
+-- There is a best partition under a space bound, and a front.
+use Rattle.std.specs.Prelude.{◌≡◌, ◌⊎◌, ℕ, zero, suc, ◌+◌, ◌-◌, ◌*◌, ◌<◌, ◌≤◌, Option, Some, None, List, [], ◌∷◌, length, slice_index, All, refl}
 use Rattle.std.proofs.Common.{arith, ap, subst, inl, inr}
 use Rattle.std.proofs.lemmas.Bool.{cases_lt, cases_eq}
 use Rattle.std.proofs.lemmas.List.Elements.{All-nil, All-cons, All-head, All-tail}
+use Rattle.base_types.specs.declared.fraction.Fraction.{Fraction}
 use Rattle.base_types.specs.declared.posting.Posting.{Posting}
 use Rattle.lists_postings.specs.Sizes.{size}
 use Rattle.plans_space.specs.Caps.{cap, unit, budget, charge, IsCandidate}
-use Rattle.plans_space.specs.Costs.{Ascends, along, expected_cost}
-use Rattle.plans_space.specs.Laws.{EachListHasABest}
-use Rattle.plans_space.specs.Plans.{IsWithin, IsEligible, IsBestUnder}
-use Rattle.plans_space.specs.Steps.{IsLeast, lesser, plus}
+use Rattle.plans_space.specs.Costs.{Ascends, along, charges, expected_cost}
+use Rattle.plans_space.specs.Laws.{EachListHasABest, EachListHasAFront}
+use Rattle.plans_space.specs.Plans.{IsWithin, IsEligible, IsBestUnder, IsFall, IsFront}
+use Rattle.plans_space.specs.Steps.{IsLeast, IsFallOf, AreFallsOf, IsLeastBefore, fall, lesser, plus, with_fall}
 use Rattle.plans_space.proofs.CostLemmas.{weighed, cost_by_segments}
+use Rattle.plans_space.specs.declared.point.Point.{Point}
+use Rattle.plans_space.proofs.FrontLemmas.{front_first, front_more}
 use Rattle.plans_space.proofs.LeastLemmas.{least_by, least_either, Begins, least_behind, BeginsBelow, least_of_all, least_way}
 use Rattle.plans_space.proofs.ShortLemmas.{place, numbered}
 
@@ -112,3 +115,74 @@ each_has_a_best list times weights factor f horizon lt = go (least_cost list tim
     go (o, h) = best o (least_either (λ x. (f < horizon) × (x ≡ horizon ∷ [])) Within (IsEligible list times factor f horizon) cost (Some (cost (horizon ∷ []))) o (λ x e. e) (λ x e. e)
         (record { list = horizon ∷ []; is = (lt, refl); takes = refl; least = λ x e. omega (arith, ap cost e.1) })
         (least_by Within Within (along (value list times weights) f) cost o (λ x w. (x, w, by_segments x w)) (λ x w. (x, w, by_segments x w)) h))
+
+-- ---- a front
+
+module _ (list : List Posting) (times weights : List ℕ) (factor : Fraction) (f horizon : ℕ) where
+  abbrev units : ℕ
+  units = unit (cap factor (length list))
+
+  -- the partitions that cut at candidates
+  abbrev AreCuts : List ℕ → Type 0
+  AreCuts cuts = Ascends f cuts horizon × All (IsCandidate times) cuts
+
+  abbrev charged : List ℕ → ℕ
+  charged cuts = charges list units f cuts
+
+  abbrev cost : List ℕ → ℕ
+  cost cuts = expected_cost list f cuts times weights
+
+  -- the least cost of those that are charged at most c
+  least_at : (c : ℕ) → (o : Option ℕ) × IsLeast (λ x. AreCuts x × (charged x ≤ c)) cost o
+  least_at c = let (o, h) = least_cost list times weights units horizon horizon f c (omega arith) in (
+    o,
+    least_by (IsWithin list times units c f horizon) (λ x. AreCuts x × (charged x ≤ c)) (along (value list times weights) f) cost o
+        (λ x w. (x, ((w.ascends, w.candidates), w.charged), cost_by_segments list times weights f x horizon w.ascends))
+        (λ x p. (x, record { ascends = p.0.0; candidates = p.0.1; charged = p.1 }, cost_by_segments list times weights f x horizon p.0.0)) h,
+  )
+
+  -- the falls at the charges below a number
+  falls_below : (n : ℕ) → (points : List Point) × (before : Option ℕ) × AreFallsOf AreCuts charged cost n points × IsLeastBefore AreCuts charged cost n before
+  falls_below zero = let first = front_first AreCuts charged cost in ([], None, first.0, first.1)
+  falls_below (suc n) =
+      let (points, before, falls, least) = falls_below n in
+      let (here, h) = least_at n in
+      let more = front_more AreCuts charged cost n points falls before here least h in
+      let e : n + 1 ≡ suc n = omega arith in
+      let further = with_fall points n (fall before here) in
+      (further, here, subst (λ m. AreFallsOf AreCuts charged cost m further) e more.0, subst (λ m. IsLeastBefore AreCuts charged cost m here) e more.1)
+
+  fall_of : (c v : ℕ) → IsFallOf AreCuts charged cost c v → IsFall list times weights units f horizon c v
+  fall_of c v fall = record {
+    cuts = fall.least.list;
+    within = record { ascends = fall.least.is.0.0; candidates = fall.least.is.0.1; charged = fall.least.is.1 };
+    takes = fall.least.takes;
+    least = λ other w. fall.least.least other ((w.ascends, w.candidates), w.charged);
+    falls = λ other most lt w. fall.falls other (w.ascends, w.candidates) (omega (arith, w.charged, lt));
+  }
+
+  fall_from : (c v : ℕ) → IsFall list times weights units f horizon c v → IsFallOf AreCuts charged cost c v
+  fall_from c v fall = record {
+    least = record {
+      list = fall.cuts;
+      is = ((fall.within.ascends, fall.within.candidates), fall.within.charged);
+      takes = fall.takes;
+      least = λ x p. fall.least x (record { ascends = p.0.0; candidates = p.0.1; charged = p.1 });
+    };
+    falls = λ other p lt. fall.falls other (charged other) lt (record { ascends = p.0; candidates = p.1; charged = omega arith });
+  }
+
+  a_front : (points : List Point) × IsFront list times weights factor f horizon points
+  a_front = let (points, before, falls, least) = falls_below (budget (cap factor (length list)) + 1) in (
+    points,
+    record {
+      ascending = falls.ascending;
+      each = λ p. (
+        λ c. let h = (falls.each p).0 c in (omega (arith, h.0), fall_of p.charge p.cost h.1),
+        λ h. (falls.each p).1 (omega (arith, h.0), fall_from p.charge p.cost h.1),
+      );
+    },
+  )
+
+pub each_has_a_front : EachListHasAFront
+each_has_a_front list times weights factor f horizon = a_front list times weights factor f horizon

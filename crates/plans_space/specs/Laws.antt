@@ -7,7 +7,8 @@ use Rattle.base_types.specs.declared.time.Span.{Span}
 use Rattle.plans_partitions.specs.Partitions.{space}
 use Rattle.plans_space.specs.Caps.{cap}
 use Rattle.plans_space.specs.Loads.{AreWeights, weights_by}
-use Rattle.plans_space.specs.Plans.{IsEligible, IsBestUnder}
+use Rattle.plans_space.specs.Plans.{IsEligible, IsBestUnder, IsFront}
+use Rattle.plans_space.specs.declared.point.Point.{Point}
 
 -- A partition that may be chosen takes at most the cap.
 abbrev pub EligibleIsCapped : Type 0
@@ -20,6 +21,12 @@ abbrev pub EachListHasABest : Type 0
 EachListHasABest =
     (list : List Posting) (times weights : List ℕ) (factor : Fraction) (f horizon : ℕ) → f < horizon
     → (cuts : List ℕ) × IsBestUnder list times weights factor f horizon cuts
+
+-- There is a front between any two times, for any weights.
+abbrev pub EachListHasAFront : Type 0
+EachListHasAFront =
+    (list : List Posting) (times weights : List ℕ) (factor : Fraction) (f horizon : ℕ)
+    → (points : List Point) × IsFront list times weights factor f horizon points
 
 -- A partition of boundaries' times that may be chosen has at most 127 segments.
 abbrev pub EligibleIsShort : Type 0

@@ -148,15 +148,23 @@ IsChosen table unit' budget' sums places cells cuts v =
     × (v ≡ whole_cost table sums))
     ⊎ IsCourse (leg_charge table unit' places) (leg_cost table sums places) table.boundaries places (length places - 1) budget' v cuts)
 
+-- At the charge c the least cost of the lists of which something holds falls to v.
+pub record IsFallOf (P : List ℕ → Type 0) (charge cost : List ℕ → ℕ) (c v : ℕ) : Type 0 where
+  pub least : IsLeastOf (λ x. P x × (charge x ≤ c)) cost v
+  pub falls : (other : List ℕ) → P other → charge other < c → v < cost other
+
+-- The points are those falls at the charges below n, in order.
+pub record AreFallsOf (P : List ℕ → Type 0) (charge cost : List ℕ → ℕ) (n : ℕ) (points : List Point) : Type 0 where
+  pub ascending : IsStrictlyIncreasing (map (λ p. p.charge) points)
+  pub each : (p : Point) → Contains points p ↔ ((p.charge < n) × IsFallOf P charge cost p.charge p.cost)
+
 -- At the charge c the least cost from stop i falls to v.
-pub record IsFallAt (charge cost : ℕ → ℕ → ℕ) (i c v : ℕ) : Type 0 where
-  pub least : IsLeastOf (IsPath charge i c) (along cost i) v
-  pub falls : (other : List ℕ) → Falls i other → along charge i other < c → v < along cost i other
+abbrev pub IsFallAt : (ℕ → ℕ → ℕ) → (ℕ → ℕ → ℕ) → ℕ → ℕ → ℕ → Type 0
+IsFallAt charge cost i = IsFallOf (Falls i) (along charge i) (along cost i)
 
 -- The points are the falls at the charges below n, in order.
-pub record ArePoints (charge cost : ℕ → ℕ → ℕ) (i n : ℕ) (points : List Point) : Type 0 where
-  pub ascending : IsStrictlyIncreasing (map (λ p. p.charge) points)
-  pub each : (p : Point) → Contains points p ↔ ((p.charge < n) × IsFallAt charge cost i p.charge p.cost)
+abbrev pub ArePoints : (ℕ → ℕ → ℕ) → (ℕ → ℕ → ℕ) → ℕ → ℕ → List Point → Type 0
+ArePoints charge cost i = AreFallsOf (Falls i) (along charge i) (along cost i)
 
 -- The cost to which the least one falls, where it does.
 abbrev pub fall : Option ℕ → Option ℕ → Option ℕ
@@ -164,9 +172,9 @@ fall before None = None
 fall None (Some v) = Some v
 fall (Some w) (Some v) = if nat_lt v w then Some v else None
 
--- The least cost from stop i for less than the charge n, where there is any path.
-abbrev pub IsBefore : (ℕ → ℕ → ℕ) → (ℕ → ℕ → ℕ) → ℕ → ℕ → Option ℕ → Type 0
-IsBefore charge cost i n = IsLeast (λ path. Falls i path × (along charge i path < n)) (along cost i)
+-- The least cost of those that are charged less than n, where there are any.
+abbrev pub IsLeastBefore : (List ℕ → Type 0) → (List ℕ → ℕ) → (List ℕ → ℕ) → ℕ → Option ℕ → Type 0
+IsLeastBefore P charge cost n = IsLeast (λ x. P x × (charge x < n)) cost
 
 -- The points, and one more where the cost falls at the charge c.
 abbrev pub with_fall : List Point → ℕ → Option ℕ → List Point

@@ -1,6 +1,6 @@
 //! What holds of plans under a space bound by the definitions, for whoever proves something over them.
 //! The functions do nothing when they run.
-ghost use Rattle.plans_space.specs.Laws.{EligibleIsCapped, EachListHasABest, EligibleIsShort, WeightsOfAFunction};
+ghost use Rattle.plans_space.specs.Laws.{EligibleIsCapped, EachListHasABest, EachListHasAFront, EligibleIsShort, WeightsOfAFunction};
 
 use crate::load::Load;
 use base_types::Span;
@@ -13,6 +13,11 @@ pub fn eligible_is_capped()
 /// There is a best partition from each time to each later one, for any weights.
 pub fn each_list_has_a_best()
     ensures { EachListHasABest }
+{}
+
+/// There is a front between any two times, for any weights.
+pub fn each_list_has_a_front()
+    ensures { EachListHasAFront }
 {}
 
 /// A partition that may be chosen has at most 127 segments, whatever the number of boundaries.

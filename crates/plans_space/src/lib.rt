@@ -22,8 +22,10 @@ mod weights;
 
 pub use judging::is_best;
 pub use laws::{
-    each_list_has_a_best, eligible_is_capped, eligible_is_short, weights_of_a_function,
+    each_list_has_a_best, each_list_has_a_front, eligible_is_capped, eligible_is_short,
+    weights_of_a_function,
 };
+pub use limits::{Limits, charge, limits_of};
 pub use load::Load;
 pub use planning::{front, plan};
 pub use point::Point;

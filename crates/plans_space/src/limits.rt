@@ -7,21 +7,21 @@ use base_types::Fraction;
 /// The most units that a plan may be charged.
 const MOST_UNITS: u128 = 4096;
 
-/// The numbers that charges go by.
+/// The numbers that charges go by, for one list or for several together.
 #[derive(Clone, Copy)]
-pub(crate) struct Limits {
+pub struct Limits {
     /// How many postings a unit is.
-    pub(crate) unit: u128,
-    /// How many units a plan may be charged.
-    pub(crate) budget: usize,
+    pub unit: u128,
+    /// How many units may be charged, at most 4,096.
+    pub budget: usize,
     pub ghost some: { 1 ≤ unit },
     pub ghost unit_fits: { unit < 2 ^ 100 },
     pub ghost few: { budget ≤ 4096 },
 }
 
-/// The limits for a list of so many postings.
-pub(crate) fn limits_of(factor: Fraction, postings: u64) -> Limits
-    requires { postings < 2 ^ 38 }
+/// The limits for lists of so many postings together. Constant cost.
+pub fn limits_of(factor: Fraction, postings: u64) -> Limits
+    requires { postings < 2 ^ 43 }
     ensures unit { result.unit ≡ unit (cap factor postings) }
     ensures budget { result.budget ≡ budget (cap factor postings) }
 {
@@ -33,9 +33,9 @@ pub(crate) fn limits_of(factor: Fraction, postings: u64) -> Limits
     }
 }
 
-/// What a segment of so many postings is charged.
-pub(crate) fn charge(size: u64, limits: Limits) -> u64
-    requires { size < 2 ^ 38 }
+/// What so many postings are charged. Constant cost.
+pub fn charge(size: u64, limits: Limits) -> u64
+    requires { size < 2 ^ 43 }
     ensures value { result ≡ charge limits.unit size }
     ensures bound { result ≤ size }
 {

@@ -13,7 +13,7 @@ use Rattle.query_eval.proofs.Ranks.{ranks-trans, never-both, in-order, in_order}
 
 -- ---- rows in their order, and the first of them
 
-take-from : (n : ℕ) (xs : List Row) (r : Row) → Contains (take n xs) r → Contains xs r
+pub take-from : (n : ℕ) (xs : List Row) (r : Row) → Contains (take n xs) r → Contains xs r
 take-from zero xs r c = absurd (none r c)
 take-from (suc n) [] r c = c
 take-from (suc n) (x ∷ xs) r c = elim (here-or-later x r (take n xs) c) [
@@ -26,13 +26,13 @@ heads-take x zero xs h = tt
 heads-take x (suc n) [] h = h
 heads-take x (suc n) (y ∷ ys) h = h
 
-take-ranked : (n : ℕ) (xs : List Row) → AreRanked xs → AreRanked (take n xs)
+pub take-ranked : (n : ℕ) (xs : List Row) → AreRanked xs → AreRanked (take n xs)
 take-ranked zero xs h = tt
 take-ranked (suc n) [] h = h
 take-ranked (suc n) (x ∷ xs) h = next-cons RanksBefore x (take n xs) (heads-take x n xs (next-head RanksBefore x xs h)) (take-ranked n xs (next-tail RanksBefore x xs h))
 
 -- all rows of some stand before this one
-abbrev AllBefore : List Row → Row → Type 0
+abbrev pub AllBefore : List Row → Row → Type 0
 AllBefore rows r = (q : Row) → Contains rows q → RanksBefore q r
 
 -- a row behind x, and all of some that are
@@ -40,7 +40,7 @@ more-before : (x : Row) (rows : List Row) (r : Row) → RanksBefore x r → AllB
 more-before x rows r b each q c = elim (here-or-later x q rows c) [ inl i ↦ subst (λ w. RanksBefore w r) i b | inr k ↦ each q k ]
 
 -- a row is among the first, or so many stand before it
-first-or-behind : (n : ℕ) (xs : List Row) (r : Row) → AreRanked xs → Contains xs r → Contains (take n xs) r ⊎ ((length (take n xs) ≡ n) × AllBefore (take n xs) r)
+pub first-or-behind : (n : ℕ) (xs : List Row) (r : Row) → AreRanked xs → Contains xs r → Contains (take n xs) r ⊎ ((length (take n xs) ≡ n) × AllBefore (take n xs) r)
 first-or-behind zero xs r h c = inr (refl, λ q k. absurd (none q k))
 first-or-behind (suc n) [] r h c = absurd (none r c)
 first-or-behind (suc n) (x ∷ xs) r h c = go (here-or-later x r xs c) (first-or-behind n xs r (next-tail RanksBefore x xs h))
@@ -80,7 +80,7 @@ crowd (y ∷ ys) (x ∷ xs) r s h among each =
         ]
 
 -- rows that have each of the first so many, and no more rows, are the first so many
-one-first : (n : ℕ) (best xs : List Row) → AreRanked best → AreRanked xs → length best ≤ n → ((q : Row) → Contains best q → Contains xs q)
+pub one-first : (n : ℕ) (best xs : List Row) → AreRanked best → AreRanked xs → length best ≤ n → ((q : Row) → Contains best q → Contains xs q)
     → ((q : Row) → Contains xs q → Contains best q ⊎ ((length best ≡ n) × AllBefore best q)) → best ≡ take n xs
 one-first zero [] xs b h few only rest = refl
 one-first zero (y ∷ ys) xs b h few only rest = absurd (omega (arith, few))

@@ -1,3 +1,4 @@
+pub mod ChainLaws
 mod Complete
 pub mod Deciding
 mod NumberLemmas

@@ -21,7 +21,7 @@ mod term;
 mod token;
 
 pub use error::QueryError;
-pub use laws::{each_text_is_read_one_way, words_decide};
+pub use laws::{any_is_a_score_above_0, each_text_is_read_one_way, words_decide};
 pub use pile::Pile;
-pub use query::{MOST_QUERY_BYTES, Query};
+pub use query::{MOST_QUERY_BYTES, Query, asks_for_any};
 pub use term::Term;

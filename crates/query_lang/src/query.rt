@@ -1,10 +1,12 @@
 //! Queries.
-ghost use Rattle.std.specs.Prelude.{◌≡◌, ◌≤◌, ℕ, ◌<◌, List, [], true, length, map, All, Ok, Err, IfOk, IsErrOf};
+ghost use Rattle.std.specs.Prelude.{◌≡◌, ◌≤◌, ℕ, ◌<◌, List, [], true, length, map, All, Ok, Err, IfOk, IsErrOf, ◌∷◌, ◌&&◌, not};
 ghost use Rattle.std.specs.List.{slice_index_or};
+ghost use Rattle.query_lang.specs.Chains.{asks_for_any, in_turn, is_or_chain};
 ghost use Rattle.query_lang.specs.Grammar.{IsRead};
 ghost use Rattle.query_lang.specs.Meaning.{matches, words_of, weight, score};
 ghost use Rattle.query_lang.specs.Postfix.{postfix, pushed, tree};
-ghost use Rattle.query_lang.specs.Tokens.{term_of};
+ghost use Rattle.query_lang.specs.Tokens.{plain, term_of};
+ghost use Rattle.query_lang.specs.declared.token.Token.{Token as PlainToken};
 ghost use Rattle.query_lang.specs.Evaluation.{truths_of, top_truth};
 ghost use Rattle.query_lang.specs.Numbered.{IsPlaced};
 
@@ -15,7 +17,7 @@ use crate::op::{Op, Spot};
 use crate::pile::Pile;
 use crate::reader::laid_of;
 use crate::term::Term;
-use crate::token::tokens_of;
+use crate::token::{Placed, Token, tokens_of};
 use base_types::Key;
 use indexmap::IndexSet;
 use std::alloc::{AllocError, Global};
@@ -141,4 +143,38 @@ fn query_of(alloc: Global, laid: &[Op<Term>]) -> Result<Query, AllocError>
         ops,
         bare,
     })
+}
+
+/// Whether a text is one word, or several with one `or` between each and the next: it asks for any of
+/// them, without parentheses. Costs the length of the text.
+pub fn asks_for_any(alloc: Global, text: &str) -> Result<bool, AllocError>
+    ensures { IfOk result (λ b. b ≡ asks_for_any text.now) }
+{
+    let tokens = tokens_of(alloc, text.as_bytes())?;
+    Ok(is_or_chain(&tokens))
+}
+
+/// Whether tokens are one word, or several with one `or` between each and the next.
+fn is_or_chain(tokens: &[Placed]) -> bool
+    ensures { result ≡ is_or_chain (plain tokens.now) }
+{
+    let mut word_is_next = true;
+    for placed in tokens {
+        if !may_stand(&placed.token, word_is_next) {
+            return false;
+        }
+        word_is_next = !word_is_next;
+    }
+    !word_is_next
+}
+
+/// Whether a token is the one that is next: a word, or else an `or`.
+fn may_stand(token: &Token, word_is_next: bool) -> bool
+    ensures { (rest : List PlainToken) → in_turn word_is_next (token.now ∷ rest) ≡ result && in_turn (not word_is_next) rest }
+{
+    match token {
+        Token::Word(_) => word_is_next,
+        Token::Or => !word_is_next,
+        _ => false,
+    }
 }

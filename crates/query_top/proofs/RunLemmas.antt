@@ -64,7 +64,7 @@ runs-each P base (l ∷ lanes) f =
     (run-each P base (max l.opened l.cover) (l.after - max l.opened l.cover) (λ i a b. subst (λ w. P (record { word = w; block = i })) z (f 0 i l (omega arith) refl a (omega (arith, a, b)))))
     (runs-each P (base + 1) lanes (λ j i k c e a b. let y : base + suc j ≡ (base + 1) + j = omega arith in subst (λ w. P (record { word = w; block = i })) y (f (suc j) i k (omega (arith, c)) e a b)))
 
-run-has : (word from n i : ℕ) → from ≤ i → i < from + n → Contains (run_of word from n) (record { word = word; block = i })
+pub run-has : (word from n i : ℕ) → from ≤ i → i < from + n → Contains (run_of word from n) (record { word = word; block = i })
 run-has word from zero i a b = absurd (omega (arith, a, b))
 run-has word from (suc n) i a b = elim (cases_lt from i) [
   | inl l ↦ Contains-append_right (record { word = word; block = from } ∷ []) (run_of word (from + 1) n) (record { word = word; block = i }) (run-has word (from + 1) n i (omega (arith, l)) (omega (arith, b)))
@@ -92,7 +92,7 @@ pub distinct-append : (a b : List Opened) → AreDistinct a → AreDistinct b �
 distinct-append [] b x y z = y
 distinct-append (o ∷ a) b x y z = (each-append (λ q. o ≢ q) a b x.0 z.0, distinct-append a b x.1 y z.1)
 
-run-distinct : (word from n : ℕ) → AreDistinct (run_of word from n)
+pub run-distinct : (word from n : ℕ) → AreDistinct (run_of word from n)
 run-distinct word from zero = tt
 run-distinct word from (suc n) = (
   run-each (λ q. record { word = word; block = from } ≢ q) word (from + 1) n (λ i a b. λ e. let k : from ≡ i = ap (λ (o : Opened). o.block) e in omega (arith, k, a)),

@@ -209,10 +209,10 @@ through-opened at ws ss count d top old new rows os some sheets weights is borde
 
 -- ---- what is scored
 
-none-in : (p : Posting) → Contains [] p → ⊥
+pub none-in : (p : Posting) → Contains [] p → ⊥
 none-in p c = let l = c.1 in omega (arith, l)
 
-each-in : {X : Type 0} (P : X → Type 0) (xs : List X) (x : X) → Contains xs x → Each P xs → P x
+pub each-in : {X : Type 0} (P : X → Type 0) (xs : List X) (x : X) → Contains xs x → Each P xs → P x
 each-in P xs x c e = subst P c.2 (each-at P c.0 xs x c.1 e)
 
 pub through-scored : (at : ℕ) (ws : List ℕ) (ss : List Sheet) (count d end : ℕ) (old new : List Lane) (rows more : List Row) (os : List Opened)

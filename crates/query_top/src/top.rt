@@ -15,8 +15,8 @@ use crate::ranking::{Row, offer};
 use base_types::Time;
 use std::alloc::{AllocError, Global};
 
-/// How many documents are scored at once, at most.
-const WINDOW: u64 = 4096;
+/// How many documents are scored at once, at most. Where documents lie far apart, a window costs as many sums for one hit.
+const WINDOW: u64 = 64;
 
 /// Whether no document with at most this score can be among the first rows.
 fn is_passed(rows: &[Row], count: usize, most: u64) -> bool
@@ -94,7 +94,7 @@ fn step<B: Blocks>(
     requires fit { AreFit (B.sheets blocks.old) lanes.old }
     requires words { length lanes.old ≤ 4096 }
     requires near { d < 2 ^ 32 }
-    requires window { length sums.old ≡ 4096 }
+    requires window { length sums.old ≡ 64 }
     ensures sheets { B.sheets blocks.new ≡ B.sheets blocks.old }
     ensures fault { (e : _) → IsErrOf result (TopError.Blocks e) → OpensToFault B.opens blocks.old e blocks.new }
     ensures far { IfOk result (λ e. (d < e) × (e ≤ 2 ^ 32)) }
@@ -131,7 +131,7 @@ fn search<B: Blocks>(
     requires few { length rows.old.items ≤ count }
     requires fit { AreFit (B.sheets blocks.old) lanes.old }
     requires words { length lanes.old ≤ 4096 }
-    requires window { length sums.old ≡ 4096 }
+    requires window { length sums.old ≡ 64 }
     ensures sheets { B.sheets blocks.new ≡ B.sheets blocks.old }
     ensures fault { (e : _) → IsErrOf result (TopError.Blocks e) → OpensToFault B.opens blocks.old e blocks.new }
     ensures through { OnOk result ((os : List Opened) × Opens B.opens blocks.old os blocks.new

@@ -1,4 +1,4 @@
-//! The rows of the questions `find`, `top`, `between`, `approx`, `rough`, `show` and `propose`, over the machine in memory, and of those
+//! The rows of the questions `find`, `top`, `best`, `between`, `approx`, `rough`, `show`, `propose` and `share`, over the machine in memory, and of those
 //! that read Pages through the cache: how many bytes are read for each.
 //!
 //! There are tests alone here, and worked rows that hold by computation (`specs/Rows.antt`). What a

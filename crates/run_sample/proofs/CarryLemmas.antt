@@ -9,11 +9,11 @@ use Rattle.model_archive.specs.Histories.{History}
 use Rattle.model_archive.specs.Steps.{Reply, Accepted, Refused, Found, Planned, Verified}
 use Rattle.model_archive.specs.Runs.{Outcome}
 use Rattle.model_archive.specs.Stands.{EachStands}
-use Rattle.model_archive.specs.Worlds.{World, world_of}
+use Rattle.model_archive.specs.Worlds.{World}
 use Rattle.model_archive.proofs.OutcomeLemmas.{each_outcome}
 use Rattle.archive_hand.specs.Changing.{KeepsBy, LeadsBy}
 use Rattle.archive_hand.specs.States.{ArchiveState, AreInStep}
-use Rattle.archive_hand.specs.Stored.{Store}
+use Rattle.archive_hand.specs.Stored.{Store, world_by}
 use Rattle.archive_hand.specs.Takes.{Ending, Replied, Starved, Faulted, Spoiled, TakesBy}
 use Rattle.archive_hand.proofs.StandingLemmas.{IsStanding, in_step_by, in_step_standing, spoiled_never, stands_standing, step_standing}
 use Rattle.run_sample.specs.declared.error.FillError.{FillError}
@@ -57,29 +57,29 @@ each_kept s old new standing keeps = λ image allowed. stands_standing s image s
 -- ---- a command that a call took is carried out by what is told of the call's end
 
 carried : (s : Store) (command : Command) (ending : Ending) (result : Result Note FillError) (old new : DiskState) (archive : ArchiveState) → IsStanding s → HasDocument (items.Command command)
-    → TakesBy s (items.Command command) ending old new archive → Tells ending result → CarriesOut s.history command result old new archive
+    → TakesBy s (items.Command command) ending old new archive → Tells ending result → CarriesOut (world_by s) command result old new archive
 carried s command (Replied reply) result old new archive standing range (next, comes, there) told =
     let is = told_ok reply result told in
     let went = step_standing s (items.Command command) reply next standing range comes.step in
-    let outcome : Outcome Reply World = record { reply = reply; next = world_of next.history } in
-    let E : Result Note FillError → Type 0 = λ r. EndsIn s.history outcome new archive r in
+    let outcome : Outcome Reply World = record { reply = reply; next = world_by next } in
+    let E : Result Note FillError → Type 0 = λ r. EndsIn (world_by s) outcome new archive r in
     record { outcome = outcome; step = went.0; leads = leads_standing s next old new standing went.1 comes.leads; ends = subst E (sym is.1) (subst (IsTold reply) is.1 told, in_step_by new archive next there went.1) }
 carried s command Starved result old new archive standing range keeps told =
-    let (outcome, step) = each_outcome (world_of s.history) (items.Command command) standing.loadable in
-    let E : Result Note FillError → Type 0 = λ r. EndsIn s.history outcome new archive r in
+    let (outcome, step) = each_outcome (world_by s) (items.Command command) standing.loadable in
+    let E : Result Note FillError → Type 0 = λ r. EndsIn (world_by s) outcome new archive r in
     record { outcome = outcome; step = step; leads = keeps_standing s outcome.next.history old new standing keeps; ends = subst E (sym told) (each_kept s old new standing keeps) }
 carried s command Faulted result old new archive standing range (inl keeps) told =
-    let (outcome, step) = each_outcome (world_of s.history) (items.Command command) standing.loadable in
-    let E : Result Note FillError → Type 0 = λ r. EndsIn s.history outcome new archive r in
+    let (outcome, step) = each_outcome (world_by s) (items.Command command) standing.loadable in
+    let E : Result Note FillError → Type 0 = λ r. EndsIn (world_by s) outcome new archive r in
     record { outcome = outcome; step = step; leads = keeps_standing s outcome.next.history old new standing keeps; ends = subst E (sym told) tt }
 carried s command Faulted result old new archive standing range (inr (reply, next, comes)) told =
     let went = step_standing s (items.Command command) reply next standing range comes.step in
-    let outcome : Outcome Reply World = record { reply = reply; next = world_of next.history } in
-    let E : Result Note FillError → Type 0 = λ r. EndsIn s.history outcome new archive r in
+    let outcome : Outcome Reply World = record { reply = reply; next = world_by next } in
+    let E : Result Note FillError → Type 0 = λ r. EndsIn (world_by s) outcome new archive r in
     record { outcome = outcome; step = went.0; leads = leads_standing s next old new standing went.1 comes.leads; ends = subst E (sym told) tt }
 carried s command (Spoiled damage) result old new archive standing range (keeps, spoils, pages) told = absurd (spoiled_never s (items.Command command) damage standing spoils)
 
-pub carries_out : (h : History) (command : Command) (ending : Ending) (result : Result Note FillError) (old new : DiskState) (before after : ArchiveState) → (in_step : AreInStep old before h)
-    → HasDocument (items.Command command) → TakesBy in_step.store (items.Command command) ending old new after → Tells ending result → CarriesOut h command result old new after
-carries_out h command ending result old new before after in_step range takes told =
-    subst (λ (x : History). CarriesOut x command result old new after) in_step.history_is (carried in_step.store command ending result old new after (in_step_standing old before h in_step) range takes told)
+pub carries_out : (w : World) (command : Command) (ending : Ending) (result : Result Note FillError) (old new : DiskState) (before after : ArchiveState) → (in_step : AreInStep old before w)
+    → HasDocument (items.Command command) → TakesBy in_step.store (items.Command command) ending old new after → Tells ending result → CarriesOut w command result old new after
+carries_out w command ending result old new before after in_step range takes told =
+    subst (λ (x : World). CarriesOut x command result old new after) in_step.world_is (carried in_step.store command ending result old new after (in_step_standing old before w in_step) range takes told)

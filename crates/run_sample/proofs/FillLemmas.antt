@@ -85,7 +85,7 @@ ends_on w outcomes further new archive errors.Memory ends = still_among (λ s. E
 -- A sample that was ended early: the abstract archive goes on over the commands that were not reached.
 ended_early : (w : World) (commands done rest : List Command) (outcomes : List (Outcome Reply World)) (old new : DiskState) (archive : ArchiveState) (error : FillError)
     → commands ≡ done ++ rest → IsRun Step w (map items.Command done) outcomes → IsLoadable (last_state w outcomes).history → All HasDocument (map items.Command rest)
-    → Fills w outcomes old new → EndsFilled w outcomes new archive (Err error) → IsFilled w.history commands (Err error) old new archive
+    → Fills w outcomes old new → EndsFilled w outcomes new archive (Err error) → IsFilled w commands (Err error) old new archive
 ended_early w commands done rest outcomes old new archive error are run loads range fills ends =
     let further = run_on (last_state w outcomes) (map items.Command rest) loads range in
     record {
@@ -125,29 +125,29 @@ run_next : (w : World) (done : List Command) (command : Command) (outcomes : Lis
 run_next w done command outcomes outcome run step = run_joins w (done ++ command ∷ []) done (command ∷ []) outcomes (outcome ∷ []) refl run (step, tt)
 
 -- at the start
-pub counts_first : (w : World) (commands : List Command) (d : DiskState) (archive : ArchiveState) (tally : Tally) → tally ≡ tally_of [] → AreInStep d archive w.history → Counts w commands commands tally None d d archive
+pub counts_first : (w : World) (commands : List Command) (d : DiskState) (archive : ArchiveState) (tally : Tally) → tally ≡ tally_of [] → AreInStep d archive w → Counts w commands commands tally None d d archive
 counts_first w commands d archive tally is in_step = record {
   outcomes = [];
-  goes = record { done = []; commands_are = refl; run = tt; fills = fills_nowhere w d (in_step_stands d archive w.history in_step); in_step = in_step };
+  goes = record { done = []; commands_are = refl; run = tt; fills = fills_nowhere w d (in_step_stands d archive w in_step); in_step = in_step };
   tally_is = is;
   last_is = tt;
 }
 
 -- the next command was carried out
 pub goes_next : (w : World) (commands rest further : List Command) (command : Command) (note : Note) (outcomes : List (Outcome Reply World)) (old mid new : DiskState) (a b : ArchiveState)
-    → Goes w commands rest outcomes old mid a → rest ≡ command ∷ further → (out : CarriesOut (last_state w outcomes).history command (Ok note) mid new b)
+    → Goes w commands rest outcomes old mid a → rest ≡ command ∷ further → (out : CarriesOut (last_state w outcomes) command (Ok note) mid new b)
     → mid.now.beside ≡ old.now.beside → Goes w commands further (outcomes ++ out.outcome ∷ []) old new b
 goes_next w commands rest further command note outcomes old mid new a b goes is out beside = record {
   done = goes.done ++ command ∷ [];
   commands_are = done_next commands goes.done rest further command goes.commands_are is;
   run = run_next w goes.done command outcomes out.outcome goes.run out.step;
   fills = fills_next w outcomes out.outcome old mid new goes.fills out.leads beside;
-  in_step = (let K : World → Type 0 = λ s. AreInStep new b s.history in subst K (sym (last_state_joins w outcomes (out.outcome ∷ []))) out.ends.1);
+  in_step = (let K : World → Type 0 = λ s. AreInStep new b s in subst K (sym (last_state_joins w outcomes (out.outcome ∷ []))) out.ends.1);
 }
 
 -- and counted
 pub counts_next : (w : World) (commands rest further : List Command) (command : Command) (note : Note) (tally more : Tally) (last next : Option Verdict) (old mid new : DiskState) (a b : ArchiveState)
-    → (counts : Counts w commands rest tally last old mid a) → rest ≡ command ∷ further → CarriesOut (last_state w counts.outcomes).history command (Ok note) mid new b
+    → (counts : Counts w commands rest tally last old mid a) → rest ≡ command ∷ further → CarriesOut (last_state w counts.outcomes) command (Ok note) mid new b
     → mid.now.beside ≡ old.now.beside
     → ((replies : List Reply) (reply : Reply) → tally ≡ tally_of replies → IsTold reply (Ok note) → more ≡ tally_of (replies ++ reply ∷ []))
     → next ≡ verdict_of note → Counts w commands further more next old new b
@@ -163,27 +163,27 @@ counts_next w commands rest further command note tally more last next old mid ne
 
 -- the run ended for want of memory, between two commands
 pub filled_between : (w : World) (commands rest : List Command) (outcomes : List (Outcome Reply World)) (old now : DiskState) (archive : ArchiveState) → Goes w commands rest outcomes old now archive
-    → All HasDocument (map items.Command rest) → IsFilled w.history commands (Err errors.Memory) old now archive
+    → All HasDocument (map items.Command rest) → IsFilled w commands (Err errors.Memory) old now archive
 filled_between w commands rest outcomes old now archive goes range =
-    ended_early w commands goes.done rest outcomes old now archive errors.Memory goes.commands_are goes.run (in_step_loads now archive (last_state w outcomes).history goes.in_step) range goes.fills
-    (at_last (λ s. EachStands now s.history) w outcomes (in_step_stands now archive (last_state w outcomes).history goes.in_step))
+    ended_early w commands goes.done rest outcomes old now archive errors.Memory goes.commands_are goes.run (in_step_loads now archive (last_state w outcomes) goes.in_step) range goes.fills
+    (at_last (λ s. EachStands now s.history) w outcomes (in_step_stands now archive (last_state w outcomes) goes.in_step))
 
 -- how a command ended that was not carried out, in the run with its outcome
 ends_at : (w : World) (outcomes : List (Outcome Reply World)) (outcome : Outcome Reply World) (new : DiskState) (archive : ArchiveState) (error : FillError)
-    → EndsIn (last_state w outcomes).history outcome new archive (Err error) → EndsFilled w (outcomes ++ outcome ∷ []) new archive (Err error)
+    → EndsIn (last_state w outcomes) outcome new archive (Err error) → EndsFilled w (outcomes ++ outcome ∷ []) new archive (Err error)
 ends_at w outcomes outcome new archive errors.Failed ends = tt
 ends_at w outcomes outcome new archive (errors.Damaged damage) ends = ends
 ends_at w outcomes outcome new archive errors.Memory ends = still_among (λ s. EachStands new s.history) w outcomes (outcome ∷ []) (at_last (λ s. EachStands new s.history) w outcomes ends)
 
 -- or at a command
 pub filled_at : (w : World) (commands rest further : List Command) (command : Command) (error : FillError) (outcomes : List (Outcome Reply World)) (old mid new : DiskState) (a b : ArchiveState)
-    → Goes w commands rest outcomes old mid a → rest ≡ command ∷ further → CarriesOut (last_state w outcomes).history command (Err error) mid new b → mid.now.beside ≡ old.now.beside
-    → All HasDocument (map items.Command rest) → IsFilled w.history commands (Err error) old new b
+    → Goes w commands rest outcomes old mid a → rest ≡ command ∷ further → CarriesOut (last_state w outcomes) command (Err error) mid new b → mid.now.beside ≡ old.now.beside
+    → All HasDocument (map items.Command rest) → IsFilled w commands (Err error) old new b
 filled_at w commands rest further command error outcomes old mid new a b goes is out beside range =
     let D : List Command → Type 0 = λ l. All HasDocument (map items.Command l) in
     let here = subst D is range in
     let E : World → Type 0 = λ s. IsLoadable s.history in
-    let loads : IsLoadable out.outcome.next.history = step_loads (last_state w outcomes) (items.Command command) out.outcome.reply out.outcome.next (in_step_loads mid a (last_state w outcomes).history goes.in_step) (All-head HasDocument (items.Command command) (map items.Command further) here) out.step in
+    let loads : IsLoadable out.outcome.next.history = step_loads (last_state w outcomes) (items.Command command) out.outcome.reply out.outcome.next (in_step_loads mid a (last_state w outcomes) goes.in_step) (All-head HasDocument (items.Command command) (map items.Command further) here) out.step in
     ended_early w commands (goes.done ++ command ∷ []) further (outcomes ++ out.outcome ∷ []) old new b error (done_next commands goes.done rest further command goes.commands_are is)
     (run_next w goes.done command outcomes out.outcome goes.run out.step) (subst E (sym (last_state_joins w outcomes (out.outcome ∷ []))) loads)
     (All-tail HasDocument (items.Command command) (map items.Command further) here) (fills_next w outcomes out.outcome old mid new goes.fills out.leads beside)
@@ -191,7 +191,7 @@ filled_at w commands rest further command error outcomes old mid new a b goes is
 
 -- or all commands were carried out
 pub filled_whole : (w : World) (commands rest : List Command) (tally : Tally) (last : Option Verdict) (verdict : Verdict) (old now : DiskState) (archive : ArchiveState)
-    → Counts w commands rest tally last old now archive → rest ≡ [] → last ≡ Some verdict → IsFilled w.history commands (Ok (record { tally = tally; verdict = verdict })) old now archive
+    → Counts w commands rest tally last old now archive → rest ≡ [] → last ≡ Some verdict → IsFilled w commands (Ok (record { tally = tally; verdict = verdict })) old now archive
 filled_whole w commands rest tally last verdict old now archive counts none some =
     let goes = counts.goes in
     let all : commands ≡ goes.done = goes.commands_are ∙ ap (λ (l : List Command). goes.done ++ l) none ∙ append-nil goes.done in

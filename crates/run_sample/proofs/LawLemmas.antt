@@ -18,7 +18,7 @@ use Rattle.run_sample.proofs.FillLemmas.{sample_ends}
 checked_last : (front : List Command) (w : World) (outcomes : List (Outcome Reply World)) → IsRun Step w (map items.Command (front ++ plain.Verify ∷ [])) outcomes
     → (before : List Reply) × (verdict : Verdict) × (replies_of outcomes ≡ before ++ Verified verdict ∷ [])
 checked_last [] w [] run = absurd run
-checked_last [] w (outcome ∷ []) run = ([], run.0.1.0, ap (λ (r : Reply). r ∷ []) run.0.1.2)
+checked_last [] w (outcome ∷ []) run = ([], run.0.0.1.0, ap (λ (r : Reply). r ∷ []) run.0.0.1.2)
 checked_last [] w (outcome ∷ next ∷ outcomes) run = absurd run.1
 checked_last (command ∷ front) w [] run = absurd run
 checked_last (command ∷ front) w (outcome ∷ outcomes) run =

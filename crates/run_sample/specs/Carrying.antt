@@ -11,7 +11,7 @@ use Rattle.model_archive.specs.Steps.{Reply, Accepted, Refused, Found, Planned, 
 use Rattle.model_archive.specs.Runs.{Outcome, IsRun}
 use Rattle.model_archive.specs.Standing.{last_state}
 use Rattle.model_archive.specs.Stands.{EachStands, Stands}
-use Rattle.model_archive.specs.Worlds.{World, world_of}
+use Rattle.model_archive.specs.Worlds.{World}
 use Rattle.archive_replies.specs.Tallies.{tally_of}
 use Rattle.archive_replies.specs.declared.tally.Tally.{Tally}
 use Rattle.archive_hand.specs.States.{ArchiveState, AreInStep}
@@ -52,19 +52,19 @@ pub record LeadsTo (before after : History) (old new : DiskState) : Type 0 where
 
 -- Where there is a note it is that of the outcome's reply, and the archive stands for the history after the outcome; where memory ran out, each
 -- image stands for the history before it. Nothing is damaged.
-abbrev pub EndsIn : History → Outcome Reply World → DiskState → ArchiveState → Result Note FillError → Type 0
-EndsIn before outcome new archive_now (Ok note) = IsTold outcome.reply (Ok note) × AreInStep new archive_now outcome.next.history
+abbrev pub EndsIn : World → Outcome Reply World → DiskState → ArchiveState → Result Note FillError → Type 0
+EndsIn before outcome new archive_now (Ok note) = IsTold outcome.reply (Ok note) × AreInStep new archive_now outcome.next
 EndsIn before outcome new archive_now (Err errors.Failed) = Unit {0}
 EndsIn before outcome new archive_now (Err (errors.Damaged damage)) = ⊥
-EndsIn before outcome new archive_now (Err errors.Memory) = EachStands new before
+EndsIn before outcome new archive_now (Err errors.Memory) = EachStands new before.history
 
 -- One command carried out: it has an outcome of the abstract archive. Each image left since the start stands for the history before the outcome or after it.
-pub record CarriesOut (history : History) (command : Command) (result : Result Note FillError) (old new : DiskState)
+pub record CarriesOut (world : World) (command : Command) (result : Result Note FillError) (old new : DiskState)
     (archive_now : ArchiveState) : Type 0 where
   pub outcome : Outcome Reply World
-  pub step : Step (world_of history) (items.Command command) outcome.reply outcome.next
-  pub leads : LeadsTo history outcome.next.history old new
-  pub ends : EndsIn history outcome new archive_now result
+  pub step : Step world (items.Command command) outcome.reply outcome.next
+  pub leads : LeadsTo world.history outcome.next.history old new
+  pub ends : EndsIn world outcome new archive_now result
 
 -- a verdict in hand is what the last reply told
 abbrev pub IsLast : List Reply → Option Verdict → Type 0
@@ -83,7 +83,7 @@ pub record Goes (world : World) (commands rest : List Command) (outcomes : List 
   pub commands_are : commands ≡ done ++ rest
   pub run : IsRun Step world (map items.Command done) outcomes
   pub fills : Fills world outcomes old now
-  pub in_step : AreInStep now archive (last_state world outcomes).history
+  pub in_step : AreInStep now archive (last_state world outcomes)
 
 -- the same, and what was counted of the outcomes
 pub record Counts (world : World) (commands rest : List Command) (tally : Tally) (last : Option Verdict) (old now : DiskState)

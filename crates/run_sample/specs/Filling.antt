@@ -5,12 +5,11 @@ use Rattle.machine_model.specs.States.{DiskState}
 use Rattle.machine_model.specs.Moments.{GoesOn, LeavesOnly}
 use Rattle.base_commands.specs.declared.command.Command.{Command}
 use Rattle.base_commands.specs.declared.command.Item.TheVariants as items
-use Rattle.model_archive.specs.Histories.{History}
 use Rattle.model_archive.specs.Steps.{Reply, Verified, Step}
 use Rattle.model_archive.specs.Runs.{Outcome, IsRun, state_after}
 use Rattle.model_archive.specs.Standing.{last_state}
 use Rattle.model_archive.specs.Stands.{EachStands, StandsIn}
-use Rattle.model_archive.specs.Worlds.{World, world_of}
+use Rattle.model_archive.specs.Worlds.{World}
 use Rattle.archive_replies.specs.Tallies.{tally_of}
 use Rattle.archive_hand.specs.States.{ArchiveState, AreInStep}
 use Rattle.run_sample.specs.declared.report.Report.{Report}
@@ -40,16 +39,16 @@ pub record Fills (world : World) (outcomes : List (Outcome Reply World)) (old ne
 -- the run. Nothing is damaged.
 abbrev pub EndsFilled : World → List (Outcome Reply World) → DiskState → ArchiveState → Result Report FillError → Type 0
 EndsFilled world outcomes new archive_now (Ok report) = IsReport (replies_of outcomes) report
-    × AreInStep new archive_now (last_state world outcomes).history
+    × AreInStep new archive_now (last_state world outcomes)
 EndsFilled world outcomes new archive_now (Err errors.Failed) = Unit {0}
 EndsFilled world outcomes new archive_now (Err (errors.Damaged damage)) = ⊥
 EndsFilled world outcomes new archive_now (Err errors.Memory) = (j : ℕ) × (j ≤ length outcomes)
     × EachStands new (state_after world outcomes j).history
 
--- One run of the abstract archive from the history over these commands, carried out up to the result.
-pub record IsFilled (history : History) (commands : List Command) (result : Result Report FillError) (old new : DiskState)
+-- One run of the abstract archive from the state over these commands, carried out up to the result.
+pub record IsFilled (world : World) (commands : List Command) (result : Result Report FillError) (old new : DiskState)
     (archive_now : ArchiveState) : Type 0 where
   pub outcomes : List (Outcome Reply World)
-  pub run : IsRun Step (world_of history) (map items.Command commands) outcomes
-  pub fills : Fills (world_of history) outcomes old new
-  pub ends : EndsFilled (world_of history) outcomes new archive_now result
+  pub run : IsRun Step world (map items.Command commands) outcomes
+  pub fills : Fills world outcomes old new
+  pub ends : EndsFilled world outcomes new archive_now result

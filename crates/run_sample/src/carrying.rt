@@ -5,7 +5,7 @@ ghost use Rattle.base_commands.specs.Documents.{HasDocument};
 ghost use Rattle.base_commands.specs.declared.command.Command.TheVariants as plain;
 ghost use Rattle.base_commands.specs.declared.command.Item.TheVariants as items;
 ghost use Rattle.base_sample.specs.Laws.{MayBeSampled};
-ghost use Rattle.model_archive.specs.Histories.{History};
+ghost use Rattle.model_archive.specs.Worlds.{World};
 ghost use Rattle.archive_hand.specs.States.{AreInStep, Reaches};
 ghost use Rattle.run_sample.specs.Carrying.{CarriesOut, verdict_of};
 
@@ -33,8 +33,8 @@ pub(crate) fn carry_out<D: Disk>(
     ensures live { OnOk result (IsTrue archive.new.live) }
     ensures within { OnOk result (Reaches (D.disk disk.new).reach archive.new) }
     ensures checked { command ≡ plain.Verify → IfOk result (λ note. IsSome (verdict_of note)) }
-    ensures outcome { D.disk_tells → (h : History) → AreInStep (D.disk disk.old) archive.old h → HasDocument (items.Command command) →
-        CarriesOut h command result (D.disk disk.old) (D.disk disk.new) archive.new }
+    ensures outcome { D.disk_tells → (w : World) → AreInStep (D.disk disk.old) archive.old w → HasDocument (items.Command command) →
+        CarriesOut w command result (D.disk disk.old) (D.disk disk.new) archive.new }
 {
     match command {
         Command::Arrive {

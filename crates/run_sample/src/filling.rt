@@ -2,7 +2,7 @@
 ghost use Rattle.std.specs.Prelude.{◌≡◌, ℕ, OnOk, IsErrOf, IsTrue};
 ghost use Rattle.machine_model.specs.Causes.{Rose};
 ghost use Rattle.base_sample.specs.Samples.{sample_of};
-ghost use Rattle.model_archive.specs.Histories.{History};
+ghost use Rattle.model_archive.specs.Worlds.{World};
 ghost use Rattle.archive_hand.specs.States.{AreInStep, Reaches};
 ghost use Rattle.run_sample.specs.Filling.{IsFilled};
 
@@ -38,8 +38,8 @@ pub fn fill<D: Disk>(
     ensures within { OnOk result (Reaches (D.disk disk.new).reach archive.new) }
     // In step with a disk that tells, it is one run of the abstract archive over the commands. Each image left since stands for a history of that
     // run; at Ok the counts and the verdict are those of the run, and the archive stands for its last history.
-    ensures filled { D.disk_tells → (h : History) → AreInStep (D.disk disk.old) archive.old h
-        → IsFilled h sample result (D.disk disk.old) (D.disk disk.new) archive.new }
+    ensures filled { D.disk_tells → (w : World) → AreInStep (D.disk disk.old) archive.old w
+        → IsFilled w sample result (D.disk disk.old) (D.disk disk.new) archive.new }
 {
     let mut rest = sample;
     let mut tally = NOTHING;

@@ -104,6 +104,7 @@ in_step_beside old new archive s same in_step =
       journal = journal_beside old new archive.end (bodies_of s.history) same in_step.journal;
       pages_are = was.pages_are;
       kept_are = in_step.kept_are;
+      asked_are = in_step.asked_are;
       read_is = was.read_is;
       live = in_step.live;
       same = λ image allowed. in_step.same image (same_images old new same image allowed);

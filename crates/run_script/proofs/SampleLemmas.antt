@@ -87,7 +87,7 @@ not_loaded seed count status output output_now old new undone beside same going 
 
 -- the commands were carried out up to an error, or there was no memory for the lines
 pub filled_unshown : (seed count : ℕ) (status : Status) (result : Result Report FillError) (output output_now : SinkState) (began old new : DiskState) (archive_now : ArchiveState) → IsUndone status → IsLoaded output.shown began old → output_now ≡ output
-    → IsFilled [] (sample_of seed count) result old new archive_now → Sampled seed count status output output_now began new
+    → IsFilled (world_of []) (sample_of seed count) result old new archive_now → Sampled seed count status output output_now began new
 filled_unshown seed count status result output output_now began old new archive_now undone loaded same filled =
     unshown seed count status output output_now began new filled.outcomes filled.run same undone (goes_on_joins loaded.2 filled.fills.goes_on) (filled_reaches filled.outcomes output.shown began old new loaded filled.fills)
 
@@ -97,12 +97,12 @@ fill_undone outcomes new archive_now error ends = tt
 
 -- the lines were shown, or a front of them
 pub filled_shown : (seed count : ℕ) (status : Status) (report : Report) (output output_now : SinkState) (began old mid new : DiskState) (archive_now : ArchiveState) (page : List ℕ) → IsLoaded output.shown began old
-    → IsFilled [] (sample_of seed count) (Ok report) old mid archive_now → page ≡ sample_text count report.tally report.verdict → OnlyShows mid new output.shown output_now.shown → IsSameBeside mid new
+    → IsFilled (world_of []) (sample_of seed count) (Ok report) old mid archive_now → page ≡ sample_text count report.tally report.verdict → OnlyShows mid new output.shown output_now.shown → IsSameBeside mid new
     → IsPrefix output_now.shown (output.shown ++ page) → (status ≡ Done → output_now.shown ≡ output.shown ++ page) → ((damage : Damage) → status ≡ Damaged damage → ⊥)
     → Sampled seed count status output output_now began new
 filled_shown seed count status report output output_now began old mid new archive_now page loaded filled text shows same front whole undamaged =
     let outcomes = filled.outcomes in
-    let each : EachStands mid (last_state (world_of []) outcomes).history = in_step_stands mid archive_now (last_state (world_of []) outcomes).history filled.ends.1 in
+    let each : EachStands mid (last_state (world_of []) outcomes).history = in_step_stands mid archive_now (last_state (world_of []) outcomes) filled.ends.1 in
     let on = goes_on_joins loaded.2 filled.fills.goes_on in
     record {
       outcomes = outcomes;

@@ -33,6 +33,7 @@ use Rattle.journal_gates.specs.Crash.{KeepsBodies, KeepsPages}
 use Rattle.journal_gates.specs.Spelled.{EachSpells, Spells}
 use Rattle.archive_hand.specs.Changing.{KeepsBy, KeepsHistory}
 use Rattle.archive_hand.specs.States.{ArchiveState, AreInStepBy}
+use Rattle.plans_share.specs.declared.asked.Asking.{Asking}
 use Rattle.archive_hand.specs.Stored.{Store, EachStandsBy, Spoils, StandsBy, StoreStep}
 use Rattle.archive_hand.proofs.ByReadsLemmas.{keeps_nowhere, same_as, stands_by}
 use Rattle.archive_entries.specs.declared.error.LoadError.{LoadError}
@@ -451,19 +452,20 @@ bodies_still bodies d each = record { goes_on = goes_on_same d; images = left_no
 
 -- behind a load the archive is in step with what is stored
 pub begins_in_step : (h : History) (d n : DiskState) (a : ArchiveState) → a.shelf.cache ≡ [] → n.bytes_read.pages ≡ d.bytes_read.pages
-    → (found : Store) × (AreInStepBy n a found × Spells d.holds.journal (bodies_of found.history) × (found.pages ≡ d.holds.pages)) → LoadsAs h d.holds → AreInStepBy n a (store_of h d)
-begins_in_step h d n a empty unread (s, (in_step, spelled, pages)) begins =
+    → (found : Store) × (AreInStepBy n a found × Spells d.holds.journal (bodies_of found.history) × (found.pages ≡ d.holds.pages) × (found.asked ≡ [])) → LoadsAs h d.holds → AreInStepBy n a (store_of h d)
+begins_in_step h d n a empty unread (s, (in_step, spelled, pages, unasked)) begins =
     let one : s.history ≡ h = spells_one_history d.holds.journal s.history h spelled in_step.stands.loadable begins.spelled begins.loadable in
     let kept : s.kept ≡ [] = sym in_step.kept_are ∙ empty in
     let read : s.read ≡ d.bytes_read.pages = sym in_step.read_is ∙ unread in
     let same : s ≡ store_of h d =
-    ap (λ (x : History). record s { history = x }) one ∙ ap (λ (x : List ℕ). record { history = h; pages = x; kept = s.kept; read = s.read }) pages
-    ∙ ap (λ (x : List Kept). record { history = h; pages = d.holds.pages; kept = x; read = s.read }) kept ∙ ap (λ (x : ℕ). record { history = h; pages = d.holds.pages; kept = []; read = x }) read in
+    ap (λ (x : History). record s { history = x }) one ∙ ap (λ (x : List Asking). record s { history = h; asked = x }) unasked
+    ∙ ap (λ (x : List ℕ). record { history = h; asked = []; pages = x; kept = s.kept; read = s.read }) pages
+    ∙ ap (λ (x : List Kept). record { history = h; asked = []; pages = d.holds.pages; kept = x; read = s.read }) kept ∙ ap (λ (x : ℕ). record { history = h; asked = []; pages = d.holds.pages; kept = []; read = x }) read in
     subst (AreInStepBy n a) same in_step
 
 -- what a load found it took the bytes for
-pub loads_found : {n : DiskState} {a : ArchiveState} (d : DiskState) → (found : (s : Store) × (AreInStepBy n a s × Spells d.holds.journal (bodies_of s.history) × (s.pages ≡ d.holds.pages))) → LoadsAs found.0.history d.holds
-loads_found d (s, (in_step, spelled, pages)) = record { spelled = spelled; loadable = in_step.stands.loadable; live = subst (λ (ps : List ℕ). AreLive (live_extents s.history) (length ps)) pages in_step.live }
+pub loads_found : {n : DiskState} {a : ArchiveState} (d : DiskState) → (found : (s : Store) × (AreInStepBy n a s × Spells d.holds.journal (bodies_of s.history) × (s.pages ≡ d.holds.pages) × (s.asked ≡ []))) → LoadsAs found.0.history d.holds
+loads_found d (s, (in_step, spelled, pages, unasked)) = record { spelled = spelled; loadable = in_step.stands.loadable; live = subst (λ (ps : List ℕ). AreLive (live_extents s.history) (length ps)) pages in_step.live }
 
 -- bytes that stand for a history are loaded for it
 pub stands_loads : (h : History) (image : Bytes) → Stands h image → LoadsAs h image

@@ -22,25 +22,25 @@ use Rattle.model_archive.specs.Worlds.{World, world_of}
 use Rattle.model_archive.proofs.OutcomeLemmas.{run_on}
 use Rattle.model_archive.proofs.RunLemmas.{carried_joins, carried_on, reopens, runs_join, shown_by_joins, state_after_all, state_after_front}
 use Rattle.archive_hand.specs.Changing.{KeepsHistory}
-use Rattle.archive_hand.specs.Stored.{Store, StandsBy, StoreStep}
+use Rattle.archive_hand.specs.Stored.{Store, StandsBy, StoreStep, world_by}
 use Rattle.archive_hand.proofs.StandingLemmas.{IsStanding, spoiled_never, stands_standing, step_standing}
-use Rattle.run_script.specs.Headline.{CarriesOutAll, ComesAfterReplies, EachOf, StandingRun}
+use Rattle.run_script.specs.Headline.{CarriesOutAll, ComesAfterReplies, EachOf, StandingRun, store_of}
 use Rattle.run_script.specs.Serving.{IsShort, Serves}
 use Rattle.run_script.specs.declared.status.Status.{Status}
 use Rattle.run_script.specs.declared.status.Status.TheVariants.{Disk}
 use Rattle.run_script.proofs.OutcomeLemmas.{some_bytes}
 use Rattle.run_script.proofs.ServeLemmas.{acknowledged, all_after_replies}
 
--- ---- outcomes by the history alone
+-- ---- outcomes by the history and what was asked alone
 
 abbrev pub bare : Outcome Reply Store → Outcome Reply World
-bare outcome = record { reply = outcome.reply; next = world_of outcome.next.history }
+bare outcome = record { reply = outcome.reply; next = world_by outcome.next }
 
 shown_bare : (outcomes : List (Outcome Reply Store)) → shown_by reply_text (map bare outcomes) ≡ shown_by reply_text outcomes
 shown_bare [] = refl
 shown_bare (outcome ∷ outcomes) = ap (λ (l : List ℕ). reply_text outcome.reply ++ l) (shown_bare outcomes)
 
-last_bare : (s : Store) (outcomes : List (Outcome Reply Store)) → last_state (world_of s.history) (map bare outcomes) ≡ world_of (last_state s outcomes).history
+last_bare : (s : Store) (outcomes : List (Outcome Reply Store)) → last_state (world_by s) (map bare outcomes) ≡ world_by (last_state s outcomes)
 last_bare s [] = refl
 last_bare s (outcome ∷ outcomes) = last_bare outcome.next outcomes
 
@@ -48,7 +48,7 @@ long_bare : (outcomes : List (Outcome Reply Store)) → length (map bare outcome
 long_bare [] = refl
 long_bare (outcome ∷ outcomes) = omega (arith, long_bare outcomes)
 
-run_bare : (s : Store) (items : List Item) (outcomes : List (Outcome Reply Store)) → IsStanding s → All HasDocument items → IsRun StoreStep s items outcomes → IsRun Step (world_of s.history) items (map bare outcomes) × IsStanding (last_state s outcomes)
+run_bare : (s : Store) (items : List Item) (outcomes : List (Outcome Reply Store)) → IsStanding s → All HasDocument items → IsRun StoreStep s items outcomes → IsRun Step (world_by s) items (map bare outcomes) × IsStanding (last_state s outcomes)
 run_bare s [] [] standing range run = (tt, standing)
 run_bare s (item ∷ items) (outcome ∷ outcomes) standing range (step, run) =
     let one = step_standing s item outcome.reply outcome.next standing (All-head HasDocument item items range) step in
@@ -59,7 +59,7 @@ run_bare s (item ∷ items) [] standing range run = absurd run
 
 -- what each image stands for along the run
 along_bare : (s : Store) (items : List Item) (outcomes : List (Outcome Reply Store)) (image : Bytes) (shown : List ℕ) → IsStanding s → All HasDocument items → IsRun StoreStep s items outcomes
-    → StandsAlong reply_text StandsBy s outcomes image shown → StandsAlong reply_text StandsIn (world_of s.history) (map bare outcomes) image shown
+    → StandsAlong reply_text StandsBy s outcomes image shown → StandsAlong reply_text StandsIn (world_by s) (map bare outcomes) image shown
 along_bare s [] [] image shown standing range run (stands, none) = (stands_standing s image standing stands, none)
 along_bare s (item ∷ items) (outcome ∷ outcomes) image shown standing range (step, run) (inl (stands, none)) = inl (stands_standing s image standing stands, none)
 along_bare s (item ∷ items) (outcome ∷ outcomes) image shown standing range (step, run) (inr (inl (stands, front))) =
@@ -70,7 +70,7 @@ along_bare s [] (outcome ∷ outcomes) image shown standing range run along = ab
 along_bare s (item ∷ items) [] image shown standing range run along = absurd run
 
 carried_bare : (s : Store) (items : List Item) (outcomes : List (Outcome Reply Store)) (before : List ℕ) (old new : DiskState) → IsStanding s → All HasDocument items → IsRun StoreStep s items outcomes
-    → Carried reply_text StandsBy s outcomes before old new → Carried reply_text StandsIn (world_of s.history) (map bare outcomes) before old new
+    → Carried reply_text StandsBy s outcomes before old new → Carried reply_text StandsIn (world_by s) (map bare outcomes) before old new
 carried_bare s items outcomes before old new standing range run carried = record {
   goes_on = carried.goes_on;
   images = λ image beside left. let was = carried.images image beside left in (was.0, was.1, along_bare s items outcomes image was.0 standing range run was.2);
@@ -117,7 +117,7 @@ all_front P (x ∷ xs) ys all = let more = all_front P xs ys (All-tail P x (xs +
 -- a run by what reads give, and the abstract archive's over all its items
 record IsRunOn (s : Store) (status : Status) (reached behind : List Item) (outcomes : List (Outcome Reply Store)) : Type 0 where
   pub further : List (Outcome Reply World)
-  pub run : IsRun Step (world_of s.history) (reached ++ behind) (map bare outcomes ++ further)
+  pub run : IsRun Step (world_by s) (reached ++ behind) (map bare outcomes ++ further)
   pub last : IsStanding (last_state s outcomes)
   pub none : behind ≡ [] → further ≡ []
   pub some : (behind ≡ [] → ⊥) → 1 ≤ length (shown_by reply_text further)
@@ -126,7 +126,7 @@ runs_on : (s : Store) (status : Status) (reached behind : List Item) (outcomes :
 runs_on s status reached behind outcomes standing range run =
     let parts = all_front HasDocument reached behind range in
     let runs = run_bare s reached outcomes standing parts.0 run in
-    let w = world_of s.history in
+    let w = world_by s in
     let loads : IsLoadable (last_state w (map bare outcomes)).history = rw (last_bare s outcomes) runs.1.loadable in
     let on = run_on (last_state w (map bare outcomes)) behind loads parts.1 in
     record {
@@ -144,12 +144,13 @@ history_event h before old new beside keeps = record {
   images = λ image other left. let was = keeps.images image other left in ([], was.1 ∙ beside ∙ sym (append-nil before), (was.0, refl));
 }
 
-pub standing_run : (s : Store) (status : Status) (old : MachineState) (mid : DiskState) (new : MachineState) (pulls : List Pull) → IsStanding s → old.disk.now.beside ≡ old.sink.shown
-    → (EachStands old.disk s.history → KeepsHistory s.history old.disk mid) → Serves s status (record { source = old.source; sink = old.sink; disk = mid }) new pulls
-    → StandingRun s.history status old new pulls
-standing_run s status old mid new pulls standing beside keeps serves =
+pub standing_run : (h : History) (start : DiskState) (status : Status) (old : MachineState) (mid : DiskState) (new : MachineState) (pulls : List Pull) → IsStanding (store_of h start) → old.disk.now.beside ≡ old.sink.shown
+    → (EachStands old.disk h → KeepsHistory h old.disk mid) → Serves (store_of h start) status (record { source = old.source; sink = old.sink; disk = mid }) new pulls
+    → StandingRun h status old new pulls
+standing_run h start status old mid new pulls standing beside keeps serves =
+    let s = store_of h start in
     let ran = serves.ran in
-    let w = world_of s.history in
+    let w = world_by s in
     let items = ran.reached ++ ran.behind in
     let range = Items-documents ran.ended ran.pulled items ran.rest ran.split.0 in
     let on = runs_on s status ran.reached ran.behind ran.outcomes standing range ran.run in
@@ -159,7 +160,7 @@ standing_run s status old mid new pulls standing beside keeps serves =
     let joined : shown_by reply_text all ≡ shown_by reply_text ran.outcomes ++ shown_by reply_text on.further = shown_by_joins reply_text so_far on.further ∙ ap (λ (l : List ℕ). l ++ shown_by reply_text on.further) (shown_bare ran.outcomes) in
     let complete : CarriesOutAll status → all ≡ so_far = λ done. ap (λ (l : List (Outcome Reply World)). so_far ++ l) (on.none (ran.all done)) ∙ append-nil so_far in
     let carried : Carried reply_text StandsIn w all old.sink.shown mid new.disk = carried_on reply_text StandsIn w so_far on.further old.sink.shown mid new.disk (carried_bare s ran.reached ran.outcomes old.sink.shown mid new.disk standing reached_range ran.run serves.carried) in
-    let last : last_state w so_far ≡ world_of (last_state s ran.outcomes).history = last_bare s ran.outcomes in
+    let last : last_state w so_far ≡ world_by (last_state s ran.outcomes) = last_bare s ran.outcomes in
     let E : World → Type 0 = λ x. EachOf StandsIn new.disk x in
     let stands : (status ≡ Disk → ⊥) → E (last_state w so_far) = λ fine. subst E (sym last) (λ image allowed. stands_standing (last_state s ran.outcomes) image on.last (serves.steady fine image allowed)) in
     let after : state_after w all (length so_far) ≡ last_state w so_far = state_after_front w so_far on.further (length so_far) (omega arith) ∙ state_after_all w so_far in

@@ -169,9 +169,9 @@ pub record LoadsAs (history : History) (image : Bytes) : Type 0 where
   pub loadable : IsLoadable history
   pub live : AreLive (live_extents history) (length image.pages)
 
--- what is stored then on a disk, of which no page is kept yet
+-- what is stored then on a disk, of which no page is kept yet, and of which nothing was asked
 abbrev pub store_of : History → DiskState → Store
-store_of history d = record { history = history; pages = d.holds.pages; kept = []; read = d.bytes_read.pages }
+store_of history d = record { history = history; asked = []; pages = d.holds.pages; kept = []; read = d.bytes_read.pages }
 
 -- Unless the bytes were refused, the disk failed or memory ran out, a load took the image for a history's.
 abbrev pub IsLoadedFrom : Bytes → Status → Type 0

@@ -2,12 +2,12 @@
 ghost use Rattle.std.specs.Prelude.{◌≡◌, ◌⊎◌, Ok, OnOk, IsOk, IsErrOf};
 ghost use Rattle.machine_model.specs.Causes.{Rose};
 ghost use Rattle.model_archive.specs.Replies.{reply_text};
-ghost use Rattle.model_archive.specs.Steps.{Found, Neared, Refused, Reply, Spanned};
+ghost use Rattle.model_archive.specs.Steps.{Found, FoundBest, Neared, Refused, Reply, Spanned};
 ghost use Rattle.archive_hand.specs.States.{AreInStepBy};
 ghost use Rattle.archive_hand.specs.Stored.{Store, TellsNoEntry};
 ghost use Rattle.archive_hand.specs.Adding.{IsDone};
 ghost use Rattle.archive_changes.specs.Endings.{changed, changed_all, plainly, planned, unchanged};
-ghost use Rattle.archive_questions.specs.Endings.{approximated, proposed, version_shown, unanswered, verified};
+ghost use Rattle.archive_questions.specs.Endings.{approximated, proposed, shared, version_shown, unanswered, verified};
 ghost use Rattle.base_commands.specs.declared.command.Item.TheVariants as items;
 ghost use Rattle.base_commands.specs.declared.command.Command.TheVariants as plain;
 ghost use Rattle.run_script.specs.Causes.{IsLeft};
@@ -19,14 +19,14 @@ use archive_check::VerifyError;
 use archive_entries::{Declined, ReadError};
 use archive_hand::{Archive, ChangeError};
 use archive_questions::{
-    Approximation, AskError, RoughAnswer, approx, between, certificate, find, propose, rough, show,
-    top, verify,
+    Approximation, AskError, BestAnswer, RoughAnswer, ShareError, approx, best, between,
+    certificate, find, propose, rough, share, show, top, verify,
 };
 use archive_replies::ReplyPage;
 use base_commands::{Command, Item, MOST_TEXT_BYTES, Text};
 use base_types::{DocId, Time};
 use machine_model::Disk;
-use model_archive::{Refusal, Summary, Verdict};
+use model_archive::{Refusal, Sharing, Summary, Verdict};
 use pages_sublists::Damage;
 use plans_kinds::Proposal;
 use query_eval::{Answer, SpanAnswer};
@@ -85,6 +85,10 @@ pub(crate) fn answer<D: Disk>(
             let result = rough(alloc, disk, archive, tolerance, at, &expr);
             write_answer(page, result)
         }
+        Command::Best { count, at, expr } => {
+            let result = best(alloc, disk, archive, count, at, &expr);
+            write_answer(page, result)
+        }
         Command::Between { span, expr } => {
             let result = between(alloc, disk, archive, span, &expr);
             write_answer(page, result)
@@ -114,8 +118,10 @@ pub(crate) fn answer<D: Disk>(
             write_verified(page, result)
         }
         Command::Begin { .. } => refuse(page, Refusal::Line),
-        Command::Best { .. } => refuse(page, Refusal::Line),
-        Command::Share { .. } => refuse(page, Refusal::Line),
+        Command::Share { fraction, words } => {
+            let result = share(alloc, archive, &words, fraction);
+            write_shared(page, result)
+        }
     }
 }
 
@@ -265,6 +271,14 @@ impl Written for RoughAnswer {
     }
 }
 
+impl Written for BestAnswer {
+    ghost reply = { λ best. FoundBest best.rows.items best.read best.opened best.blocks };
+
+    fn write(&self, page: &mut ReplyPage) -> Result<(), AllocError> {
+        page.found_best(&self.rows, self.read, self.opened, self.blocks)
+    }
+}
+
 impl Written for SpanAnswer {
     ghost reply = { λ answer. Spanned answer.rows.items answer.read };
 
@@ -318,6 +332,25 @@ fn write_approximated(
         }
         Err(Declined::Refused(why)) => refuse(page, why),
         Err(Declined::Memory) => Err(Halt::Memory),
+    }
+}
+
+/// Writes how words share a budget on the page, or halts the run.
+fn write_shared(page: &mut ReplyPage, sharing: Result<Sharing, ShareError>) -> Result<(), Halt>
+    ensures writes { Writes (shared sharing) result page.new.bytes }
+    ensures fault { IsErrOf result Halt.Disk → ⊥ }
+    ensures undamaged { (d : Damage) → IsErrOf result (Halt.Damaged d) → ⊥ }
+{
+    match sharing {
+        Ok(sharing) => {
+            page.shared(&sharing)?;
+            Ok(())
+        }
+        Err(ShareError::Refused { why, index }) => {
+            page.refused_in(why, index);
+            Ok(())
+        }
+        Err(ShareError::Memory) => Err(Halt::Memory),
     }
 }
 

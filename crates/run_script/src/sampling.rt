@@ -6,6 +6,7 @@ ghost use Rattle.machine_model.specs.States.{DiskState};
 ghost use Rattle.journal_gates.specs.Crash.{KeepsBodies};
 ghost use Rattle.journal_gates.specs.Spelled.{EachSpells, Spells};
 ghost use Rattle.model_archive.specs.Histories.{History};
+ghost use Rattle.model_archive.specs.Worlds.{world_of};
 ghost use Rattle.model_archive.specs.Legal.{IsLoadable};
 ghost use Rattle.model_archive.specs.Stands.{Stands, EachStands, IsNotArchive, bodies_of};
 ghost use Rattle.archive_hand.specs.States.{AreInStep, Reaches};
@@ -88,8 +89,9 @@ fn fill_and_show<M: Machine>(
     ensures disk_later { (M.disk machine.old).faults ≤ (M.disk machine.new).faults }
     ensures disk_fault { result ≡ Status.Disk → Rose (M.disk machine.old).faults (M.disk machine.new).faults }
     ensures sink_fault { result ≡ Status.Sink → Rose (M.sink machine.old).faults (M.sink machine.new).faults }
-    ensures undamaged { M.disk_tells → AreInStep (M.disk machine.old) archive.old [] → (d : Damage) → result ≡ Status.Damaged d → ⊥ }
-    ensures sampled { M.sink_tells → M.disk_tells → AreInStep (M.disk machine.old) archive.old [] →
+    ensures undamaged { M.disk_tells → AreInStep (M.disk machine.old) archive.old (world_of []) → (d : Damage) →
+        result ≡ Status.Damaged d → ⊥ }
+    ensures sampled { M.sink_tells → M.disk_tells → AreInStep (M.disk machine.old) archive.old (world_of []) →
         (began : DiskState) → IsLoaded (M.sink machine.old).shown began (M.disk machine.old) →
         Sampled numbers.seed numbers.count result (M.sink machine.old) (M.sink machine.new) began (M.disk machine.new) }
 {

@@ -10,11 +10,13 @@ from dataclasses import dataclass
 from pathlib import Path
 
 from .entries import BATCH, CLOSED, HEADER, MARK, MOST_TEXT, NOW, OPEN, PLAN, THE_MARK, Act, NotArchive, acts_of, records, spelled_batch
-from .planning import GUARANTEE, Plan, Posting, Stored, Table
-from .words import BadQuery, Query, one_term, parse, terms
+from .planning import GUARANTEE, Plan, Posting, Stored, Table, shared
+from .words import BadQuery, Query, any_of, one_term, parse, terms
 
 #: The texts of a batch have at most so many bytes together.
 MOST_BATCH = 16_777_216
+#: So many pairs of a word and a time are kept of what a run was asked.
+MOST_ASKED = 1 << 20
 #: A test may ask for an archive that is full sooner.
 MOST_DOCUMENTS = int(os.environ.get("FAKE_DOCUMENTS", 1 << 20))
 
@@ -45,6 +47,7 @@ class History:
         self._lists: dict[str, list[Posting]] = {}
         self._gate = len(HEADER)
         self._is_marked = False
+        self._asked: list[tuple[str, int]] = []
         self._file = os.fdopen(os.open(self._path, os.O_RDWR | os.O_CREAT, 0o666), "r+b")
         if locks:
             fcntl.flock(self._file, fcntl.LOCK_EX | fcntl.LOCK_NB)
@@ -90,6 +93,33 @@ class History:
         read = sum(self._read_at(word, time) for word in query.words)
         rows = sorted(rows)[:count]
         return [*(f"hit {doc} {-score}" for score, doc in rows), f"end {len(rows)} read {read}"]
+
+    def find_and_note(self, time: int, expr: str) -> list[str]:
+        """The same, which counts for shares."""
+        query = self._query(expr)
+        self._asked += [(word, time) for word in sorted(query.words)]
+        del self._asked[MOST_ASKED:]
+        return self.find(time, expr)
+
+    def best(self, time: int, expr: str, count: int) -> list[str]:
+        """The first rows of words joined by `or`. Sublists are flat here, so there are no blocks."""
+        self._query(expr)
+        if not any_of(expr):
+            raise Refusal("20 NotDisjunction")
+        *rows, end = self.find(time, expr, count)
+        return [*rows, f"{end} opened 0 of 0"]
+
+    def share(self, factor: tuple[int, int], words: list[str]) -> list[str]:
+        tables: dict[str, Table] = {}
+        for index, word in enumerate(words, 1):
+            try:
+                tables.setdefault(*self._table(word))
+            except Refusal as refusal:
+                raise Refusal(f"{refusal} in {index}") from None
+        times = {key: [time for word, time in self._asked if word == key] for key in tables}
+        unit, budget, picks = shared(list(tables.values()), list(times.values()), *factor)
+        told = [f"share {key} {charge} {cost}" for key, (charge, cost) in zip(tables, picks)]
+        return [*told, f"end {len(tables)} unit {unit} budget {budget} cost {sum(cost for _, cost in picks)}"]
 
     def approx(self, word: str, tolerance: tuple[int, int]) -> list[str]:
         postings = self._list(self._known(word))

@@ -5,6 +5,7 @@ from __future__ import annotations
 import struct
 from bisect import bisect_left, bisect_right
 from dataclasses import dataclass
+from typing import Callable
 
 #: A posting: document, count, from, to.
 Posting = tuple[int, int, int, int]
@@ -101,22 +102,64 @@ class Table:
 
     def bounded(self, over: int, under: int, since: int) -> tuple[Plan, int]:
         """A plan of least expected cost in bounded space, and that cost."""
+
+        def seconds(left: int, right: int) -> int:
+            return max(0, right - max(left, since))
+
         times = self.boundaries
-        cap = over * self.full // under
+        whole = self.full * seconds(times[0], times[-1])
+        cost, cuts = min([(whole, [times[0], times[-1]]), *self.front(over, under, seconds).values()])
+        return self.plan(cuts), cost
+
+    def front(self, over: int, under: int, weigh: Callable[[int, int], int]) -> dict[int, tuple[int, list[int]]]:
+        """By charge, a plan of least cost that is charged so much: its cost and cuts. A span weighs as much as it is asked for."""
+        times = self.boundaries
         step = 1 if len(times) <= 128 else -(-(len(times) - 1) // 127)
         candidates = sorted({*times[::step], times[-1]})
-        unit = max(1, -(-cap // 4_096))
+        unit, budget = charges(over * self.full // under)
         fronts: list[dict[int, tuple[int, list[int]]]] = [{0: (0, [candidates[0]])}]
         for right in candidates[1:]:
             front: dict[int, tuple[int, list[int]]] = {}
             for left, earlier in zip(candidates, fronts):
                 size = self.size(left, right)
-                cost = size * max(0, right - max(left, since))
+                cost = size * weigh(left, right)
                 for charge, (before, cuts) in earlier.items():
                     total = charge + -(-size // unit)
-                    if total <= cap // unit and (total not in front or before + cost < front[total][0]):
+                    if total <= budget and (total not in front or before + cost < front[total][0]):
                         front[total] = (before + cost, [*cuts, right])
             fronts.append(front)
-        whole = self.full * max(0, times[-1] - max(times[0], since))
-        cost, cuts = min([(whole, [times[0], times[-1]]), *fronts[-1].values()])
-        return self.plan(cuts), cost
+        return fronts[-1]
+
+    def offers(self, asked: list[int], unit: int) -> list[tuple[int, int]]:
+        """What may be taken of this list, each with its charge in shared units and its cost: first the list in one piece."""
+
+        def count(left: int, right: int) -> int:
+            return sum(left <= time < right for time in asked)
+
+        own, _ = charges(16 * self.full)
+        whole = -(-self.full // unit), self.full * count(self.boundaries[0], self.boundaries[-1])
+        return [whole, *((-(-charge * own // unit), cost) for charge, (cost, _) in self.front(16, 1, count).items())]
+
+
+def charges(cap: int) -> tuple[int, int]:
+    """The unit of a charge, in postings, and the budget in units."""
+    unit = max(1, -(-cap // 4_096))
+    return unit, cap // unit
+
+
+def shared(tables: list[Table], asked: list[list[int]], over: int, under: int) -> tuple[int, int, list[tuple[int, int]]]:
+    """The unit, the budget, and of each list the charge and the cost that a best choice takes."""
+    unit, budget = charges(over * sum(table.full for table in tables) // under)
+    offers = [table.offers(times, unit) for table, times in zip(tables, asked)]
+    least: dict[int, tuple[int, list[tuple[int, int]]]] = {0: (0, [])}
+    for points in offers:
+        found: dict[int, tuple[int, list[tuple[int, int]]]] = {}
+        for charged, (spent, picks) in least.items():
+            for charge, cost in points:
+                total, sum_of = charged + charge, spent + cost
+                if total <= budget and (total not in found or sum_of < found[total][0]):
+                    found[total] = sum_of, [*picks, (charge, cost)]
+        least = found
+    wholes = [points[0] for points in offers]
+    ways = [(sum(cost for _, cost in wholes), 0, wholes), *((cost, charge, picks) for charge, (cost, picks) in least.items())]
+    return unit, budget, min(ways)[2]

@@ -9,6 +9,7 @@ from typing import Callable, Iterator
 
 MOST_KEY = 255
 MOST_OPEN = 64
+MOST_WEIGHT = 1_000
 
 
 class BadQuery(Exception):
@@ -17,14 +18,21 @@ class BadQuery(Exception):
 
 @dataclass(frozen=True)
 class Query:
-    """Whether counts of words match, and the words that score."""
+    """Whether counts of words match, and how much each word scores: nothing where it stands under `not` alone."""
 
     matches: Callable[[Callable[[str], int]], bool]
-    words: frozenset[str]
-    positive: frozenset[str]
+    weights: dict[str, int]
+
+    @property
+    def words(self) -> frozenset[str]:
+        return frozenset(self.weights)
+
+    @property
+    def positive(self) -> frozenset[str]:
+        return frozenset(word for word, weight in self.weights.items() if weight)
 
     def score(self, count: Callable[[str], int]) -> int:
-        return sum(count(word) for word in self.positive)
+        return sum(weight * count(word) for word, weight in self.weights.items())
 
 
 def fold(run: str) -> str:
@@ -46,6 +54,23 @@ def one_term(text: str) -> str | None:
     if len(found) != 1 or not 1 <= len(fold(found[0]).encode()) <= MOST_KEY:
         return None
     return fold(found[0])
+
+
+def weighted(token: str) -> tuple[str, int] | None:
+    """The word that a token is, and its weight."""
+    key = one_term(token)
+    word, mark, number = token.rpartition("^")
+    if key is None and mark and number.isascii() and number.isdigit() and 1 <= int(number) <= MOST_WEIGHT:
+        key = one_term(word)
+        return (key, int(number)) if key else None
+    return (key, 1) if key else None
+
+
+def any_of(expr: str) -> bool:
+    """Whether the query is one word, or words with one `or` between each and the next."""
+    found = [token for _, token in _tokens(expr)]
+    words = [token for token in found[::2] if token not in ("(", ")", "and", "or", "not")]
+    return len(found) % 2 == 1 and len(words) == len(found[::2]) and all(token == "or" for token in found[1::2])
 
 
 def parse(expr: str) -> Query:
@@ -112,23 +137,22 @@ class _Parser:
             self._at += 1
             if token == "not":
                 inner = self._factor(not positive, depth + 1)
-                return Query(lambda count: not inner.matches(count), inner.words, inner.positive)
+                return Query(lambda count: not inner.matches(count), inner.weights)
             query = self.either(positive, depth + 1)
             if self._next() != ")":
                 raise self._fault()
             self._at += 1
             return query
-        key = one_term(token) if token not in ("", ")", "and", "or") else None
-        if key is None:
+        term = weighted(token) if token not in ("", ")", "and", "or") else None
+        if term is None:
             raise self._fault()
         self._at += 1
-        words = frozenset([key])
-        return Query(lambda count: count(key) > 0, words, words if positive else frozenset())
+        key, weight = term
+        return Query(lambda count: count(key) > 0, {key: weight if positive else 0})
 
 
 def _join(one: Query, other: Query, how: Callable[[Iterator[bool]], bool]) -> Query:
     return Query(
         lambda count: how(query.matches(count) for query in (one, other)),
-        one.words | other.words,
-        one.positive | other.positive,
+        {word: max(one.weights.get(word, 0), other.weights.get(word, 0)) for word in one.weights | other.weights},
     )

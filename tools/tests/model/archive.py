@@ -8,12 +8,15 @@ from dataclasses import dataclass
 from hashlib import sha256
 from typing import Iterator
 
-from .base import FOREVER, MOST_BATCH, MOST_BYTES, MOST_DOCUMENTS, MOST_TEXT, MOST_VERSIONS, MOST_WORDS, PAGE
+from .base import FOREVER, MOST_BATCH, MOST_BEST_ROWS, MOST_BYTES, MOST_DOCUMENTS, MOST_TEXT, MOST_TOP_ROWS, MOST_VERSIONS
+from .base import MOST_WORDS, PAGE
 from .base import Broken, Differs, NoCommand, NotArchive, Refused
-from .journal import Batch, Change, Mark, Place, Plan, read_entry, read_journal, spell_journal, sublist
+from .firsts import Sheet, test_opened
+from .journal import BLOCKS, Batch, Change, Mark, Place, Plan, blocks_of, clipped, read_entry, read_journal, spell_journal, sublist
 from .plans import GUARANTEE, SINCE, UNIFORM, Line, Posting, near_postings, stretches, test_segments, test_width, told
+from .shares import MOST_ASKED, test_shares
 from .script import Item, count_of, document_of, factor_of, items, query_behind, time_of, tolerance_of
-from .words import Query, keys, one_key
+from .words import Query, asks_for_any, keys, one_key
 
 
 @dataclass(frozen=True)
@@ -51,6 +54,7 @@ class Archive:
         self.plans: dict[str, Plan] = {}
         self.words: set[str] = set()
         self.last, self.is_marked = 0, False
+        self.asked: list[tuple[str, int]] = []  # what this run was asked
         self._versions, self._length = 0, len(spell_journal([]))
 
     @classmethod
@@ -116,7 +120,7 @@ class Archive:
 
     def run(self, script: bytes, choice: Choice) -> Outcome:
         """Carries out a script, up to a reply that the program didn't show, and tells what it is to show."""
-        shown = b""
+        shown, self.asked = b"", []
         try:
             for item in items(script):
                 shown += self.shown_of(item, Choice(choice.entries, choice.shown[len(shown) :]))
@@ -157,13 +161,17 @@ class Archive:
             case [b"find", time, _, *_]:
                 return self._find(time_of([time]), query_behind(item.line, 2))
             case [b"top", count, time, _, *_]:
-                return self._top(count_of(count), time_of([time]), query_behind(item.line, 3))
+                return self._top(count_of(count, MOST_TOP_ROWS), time_of([time]), query_behind(item.line, 3))
+            case [b"best", count, time, _, *_]:
+                return self._best(count_of(count, MOST_BEST_ROWS), time_of([time]), query_behind(item.line, 3), choice)
             case [b"approx", word, tolerance]:
                 return self._approx(word.decode(), tolerance_of(tolerance))
             case [b"rough", tolerance, time, _, *_]:
                 return self._rough(tolerance_of(tolerance), time_of([time]), query_behind(item.line, 3))
             case [b"between", start, end, _, *_] if time_of([start]) < time_of([end]):
                 return self._between(time_of([start]), time_of([end]), query_behind(item.line, 3))
+            case [b"share", factor, _, *_] if len(item.words) <= 18:
+                return self._share(factor_of(factor), item.words[2:], choice)
             case [b"show", document, time]:
                 return self._show(document_of([document]), time_of([time]))
             case [b"verify"]:
@@ -273,15 +281,41 @@ class Archive:
         return count
 
     def _find(self, time: int, asked: bytes) -> list[str]:
-        return self._found(time, Query(asked), len(self.documents))
+        query = Query(asked)
+        reply = self._found(time, query, len(self.documents))
+        self.asked = [*self.asked, *((key, time) for key in query.words)][:MOST_ASKED]
+        return reply
 
     def _top(self, count: int, time: int, asked: bytes) -> list[str]:
         return self._found(time, Query(asked), count)
 
+    def _best(self, count: int, time: int, asked: bytes, choice: Choice) -> list[str]:
+        query = Query(asked)
+        if not asks_for_any(asked):
+            raise Refused("20 NotDisjunction")
+        *hits, end = self._found(time, query, count)
+        shown = re.match(rb"(?:hit \d+ \d+\n)*end \d+ read \d+ opened (\d+) of \d+\n", choice.shown)
+        opened = int(shown[1]) if shown else 0
+        sheets = [self._sheet(key, weight, time) for key, weight in query.weights.items()]
+        documents = {int(hit.split()[1]) for hit in hits}
+        return [*hits, f"{end} opened {opened} of {test_opened(sheets, self._scores(time, query), documents, count, time, opened)}"]
+
+    def _sheet(self, key: str, weight: int, time: int) -> Sheet:
+        """The blocks of the sublist that has a time, or the postings that hold it of a list that isn't in blocks."""
+        plan = self.plans.get(key)
+        if plan and plan.layout == BLOCKS and time < plan.horizon:
+            segments = [it for it in plan.segments() if it[0] <= time < it[1]]
+            return Sheet(weight, [block for it in segments for block in blocks_of(self.postings(key, 0, plan.horizon), *it)], [])
+        return Sheet(weight, [], clipped(self.postings(key), time, time + 1))
+
+    def _scores(self, time: int, query: Query) -> dict[int, int]:
+        """What the documents score that a query finds at a time."""
+        scores = {document: query.score(self._alive(document, time).counts) for document in self.documents}
+        return {document: score for document, score in scores.items() if score is not None}
+
     def _found(self, time: int, query: Query, most: int) -> list[str]:
         """So many rows at most of what a query finds at a time."""
-        scores = {document: query.score(self._alive(document, time).counts) for document in self.documents}
-        rows = sorted((-score, document) for document, score in scores.items() if score is not None)
+        rows = sorted((-score, document) for document, score in self._scores(time, query).items())
         hits = [f"hit {document} {-score}" for score, document in rows[:most]]
         return [*hits, f"end {len(hits)} read {self._read(query, time, time + 1)}"]
 
@@ -350,6 +384,21 @@ class Archive:
         if plan is None or plan.kind != GUARANTEE:
             raise Refused("14 NoPlan")
         return told(Line(self.postings(plan.key, 0, plan.horizon), plan.horizon), plan.factor, plan.segments())
+
+    def _share(self, factor: tuple[int, int], words: list[bytes], choice: Choice) -> list[str]:
+        if factor[0] > 16 * factor[1]:
+            raise NoCommand
+        lines: dict[str, Line] = {}
+        for number, word in enumerate([it.decode() for it in words], 1):
+            try:
+                lines.setdefault(*self._sealed(word))
+            except Refused as refusal:
+                raise Refused(f"{refusal} in {number}") from None
+        shown = re.match(rb"(share \S+ \d+ \d+\n)*", choice.shown)[0].decode().splitlines()
+        shares = {it.split()[1]: (int(it.split()[2]), int(it.split()[3])) for it in shown}
+        if list(shares) != list(lines):
+            raise Differs(f"{shares} aren't shares of {list(lines)}")
+        return test_shares(lines, {key: [time for it, time in self.asked if it == key] for key in lines}, factor, shares)
 
     def _plan(self, word: str, kind: int, factor: tuple[int, int], since: int, choice: Choice) -> list[str]:
         key, line = self._sealed(word)

@@ -10,7 +10,7 @@ MOST_BOUNDARIES, PAGE = 1 << 20, 4_096
 #: Of the changes of a batch, and of the bytes of their texts together.
 MOST_ACTS, MOST_BATCH = 1_000, 1 << 24
 #: Of the rows that may be asked for.
-MOST_TOP_ROWS = 1_000_000
+MOST_TOP_ROWS, MOST_BEST_ROWS = 1_000_000, 1_000
 
 
 class Refused(Exception):

@@ -88,10 +88,20 @@ class Plan:
 
 def sublist(postings: list[Posting], start: int, end: int, layout: int) -> bytes:
     """The bytes of a segment's sublist: of the postings of a list that have a time in the segment."""
-    postings = [it for it in postings if it.start < end and start < it.end]
     if layout == FLAT:
-        return b"".join(pack(">IIQQ", it.document, it.frequency, it.start, it.end) for it in postings)
-    return b"".join(_block(postings[at : at + 128]) for at in range(0, len(postings), 128))
+        return b"".join(pack(">IIQQ", it.document, it.frequency, it.start, it.end) for it in clipped(postings, start, end))
+    return b"".join(map(_block, blocks_of(postings, start, end)))
+
+
+def clipped(postings: list[Posting], start: int, end: int) -> list[Posting]:
+    """The postings that have a time in a span, as they are."""
+    return [it for it in postings if it.start < end and start < it.end]
+
+
+def blocks_of(postings: list[Posting], start: int, end: int) -> list[list[Posting]]:
+    """The same in pieces of 128."""
+    found = clipped(postings, start, end)
+    return [found[at : at + 128] for at in range(0, len(found), 128)]
 
 
 def _block(postings: list[Posting]) -> bytes:

@@ -4,7 +4,7 @@ from __future__ import annotations
 
 from bisect import bisect_left, bisect_right
 from dataclasses import dataclass
-from typing import Iterable, TypeVar
+from typing import Callable, Iterable, TypeVar
 
 from .base import MOST_BOUNDARIES, Differs, Refused
 
@@ -107,13 +107,18 @@ class Line:
 
     def cheapest(self, factor: tuple[int, int], since: int) -> int:
         """The least expected cost of the plans that are compared under a space bound."""
+        front = self.front(factor, lambda start, end: self.cost(start, end, since))
+        return min([self.cost(self.boundaries[0], self.boundaries[-1], since), *front.values()])
+
+    def front(self, factor: tuple[int, int], cost_of: Callable[[int, int], int]) -> dict[int, int]:
+        """The charges at which the least cost of the plans that cut at candidates falls, with that cost."""
         unit, budget = self.charges(factor)
         cuts = self.candidates()
         fronts: list[dict[int, int]] = [{0: 0}]  # of each candidate: the least cost of plans up to there, by their charge
         for last, end in enumerate(cuts[1:], 1):
             found: dict[int, int] = {}
             for first, start in enumerate(cuts[:last]):
-                charge, cost = -(-self.size(start, end) // unit), self.cost(start, end, since)
+                charge, cost = -(-self.size(start, end) // unit), cost_of(start, end)
                 for charged, spent in fronts[first].items():
                     if charged + charge <= budget:
                         found[charged + charge] = min(found.get(charged + charge, cost + spent), cost + spent)
@@ -121,7 +126,7 @@ class Line:
             for charge in sorted(found):
                 if all(found[charge] < it for it in fronts[-1].values()):
                     fronts[-1][charge] = found[charge]
-        return min([self.cost(cuts[0], cuts[-1], since), *fronts[-1].values()])
+        return fronts[-1]
 
 
 def test_width(line: Line) -> None:

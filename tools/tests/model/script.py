@@ -7,7 +7,7 @@ from dataclasses import dataclass
 from datetime import date
 from typing import Iterator
 
-from .base import FOREVER, MOST_ACTS, MOST_LINE, MOST_TOP_ROWS, Broken, NoCommand
+from .base import FOREVER, MOST_ACTS, MOST_LINE, Broken, NoCommand
 
 
 @dataclass(frozen=True)
@@ -81,9 +81,9 @@ def number_of(words: list[bytes], limit: int) -> int:
     return int(words[0])
 
 
-def count_of(word: bytes) -> int:
-    """How many rows are asked for."""
-    count = number_of([word], MOST_TOP_ROWS + 1)
+def count_of(word: bytes, most: int) -> int:
+    """How many rows are asked for, of so many at most."""
+    count = number_of([word], most + 1)
     if count == 0:
         raise NoCommand
     return count

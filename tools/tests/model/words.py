@@ -27,6 +27,13 @@ def one_key(word: str) -> str | None:
     return keys(word)[0] if len(_runs(word)) == len(keys(word)) == 1 else None
 
 
+def asks_for_any(asked: bytes) -> bool:
+    """Whether a query's tokens are one word, or words with one `or` between each and the next."""
+    found = re.findall(rb"[()]|[^ ()]+", asked)
+    words = [it for it in found[::2] if it not in (b"(", b")", b"and", b"or", b"not")]
+    return len(found) % 2 == 1 and words == found[::2] and set(found[1::2]) <= {b"or"}
+
+
 class Query:
     """A tree of `("not", tree)`, `("and", trees)`, `("or", trees)` and `("word", key)`, and the weight of each word."""
 
@@ -82,6 +89,11 @@ class Query:
         self._at += 1
         self.weights[key] = max(self.weights.get(key, 0), weight if is_counted else 0)
         return "word", key
+
+    @property
+    def words(self) -> list[str]:
+        """The distinct words, in the order in which they stand first."""
+        return list(self.weights)
 
     def score(self, counts: Counter[str] | None) -> int | None:
         """The score of a text that has words so often; none where it doesn't match, or there is no text."""

@@ -127,10 +127,7 @@ fn offered(rt: &impl Abort, alloc: Global, (whole, points): Plain) -> Offer {
     for pair in points {
         front.push(point(*pair)).expect(rt, "memory");
     }
-    Offer {
-        whole: point(whole),
-        front,
-    }
+    Offer::new(point(whole), front)
 }
 
 /// The offers of a table.
@@ -149,13 +146,13 @@ const MOST: u128 = (1 << 100) - 1;
 fn is_cheap(offer: &Offer) -> bool
     ensures { result ≡ true → AreCheap offer.now }
 {
-    offer.whole.cost <= MOST && offer.front.iter().all(|p| p.cost <= MOST)
+    offer.whole().cost <= MOST && offer.front().iter().all(|p| p.cost <= MOST)
 }
 
 /// What is chosen.
 fn chosen(rt: &impl Abort, alloc: Global, offers: &[Offer], budget: u64) -> Choice {
     assert!(rt; offers.len() <= 16 && budget <= 4096);
-    assert!(rt; offers.iter().all(|o| o.front.len() <= 4097));
+    assert!(rt; offers.iter().all(|o| o.front().len() <= 4097));
     assert!(rt; offers.iter().all(|o| is_cheap(o)));
     combine(alloc, offers, budget).expect(rt, "memory")
 }
@@ -166,7 +163,7 @@ fn totals(rt: &impl Abort, offers: &[Offer], picks: &[usize]) -> Pair {
     let mut charges = 0u64;
     let mut costs = 0u128;
     for (offer, pick) in offers.iter().zip(picks) {
-        assert!(rt; *pick <= offer.front.len());
+        assert!(rt; *pick <= offer.front().len());
         let point = offer.point(*pick);
         charges = charges.saturating_add(point.charge);
         costs = costs.saturating_add(point.cost);

@@ -6,7 +6,7 @@ use Rattle.base_commands.specs.declared.command.Item.TheVariants as items
 use Rattle.model_archive.specs.declared.summary.Summary.{Summary}
 use Rattle.model_archive.specs.Steps.{Planned, Plans, Refused}
 use Rattle.archive_hand.specs.States.{CacheStands, StandsFor}
-use Rattle.archive_hand.proofs.GiveUpLemmas.{given_up_cached, given_up_never, given_up_refused}
+use Rattle.archive_hand.proofs.GiveUpLemmas.{given_up_asked, given_up_cached, given_up_never, given_up_refused}
 use Rattle.archive_hand.proofs.ByReadsLemmas.{still_by, stocks_same}
 use Rattle.archive_changes.proofs.PlanLemmas.{plan_by, plans_full, plans_stored, plans_refused}
 use Rattle.archive_changes.proofs.TakeLemmas.{unmade_by}
@@ -35,7 +35,7 @@ returns-in-Ok-clause-by_reads g c = λ tells s in_step.
     (λ why is.
     let full = returns-in-Ok-clause-refused g c h stands why is in
     let same = ap g.D.Disk.disk (c.store.ensures.same why is) in
-    (same, full.0, still_by _ c.args.archive.now c.store.new.self s in_step full.1 (let kept : CacheStands (g.D.Disk.disk c.store.new.disk) c.store.new.self = c.store.ensures.cached tells in_step.cached (inr (why, is)) in rw same at kept)))
+    (same, full.0, still_by _ c.args.archive.now c.store.new.self s in_step full.1 c.store.ensures.unasked (let kept : CacheStands (g.D.Disk.disk c.store.new.disk) c.store.new.self = c.store.ensures.cached tells in_step.cached (inr (why, is)) in rw same at kept)))
     (λ is. ap g.D.Disk.disk (c.store.ensures.memory is)) (c.store.ensures.puts tells s in_step) (c.store.ensures.stops tells s in_step)
 
 pub returns-in-Err-clause-refused : goal.returns-in-Err-clause-refused
@@ -46,5 +46,5 @@ returns-in-Err-clause-refused g c = λ h stands why is.
 pub returns-in-Err-clause-by_reads : goal.returns-in-Err-clause-by_reads
 returns-in-Err-clause-by_reads g c = λ tells s in_step.
     unmade_by s (items.Command (commands.Plan c.args.word.now c.args.kind c.args.factor)) c.give_up.result _ _ c.args.archive.now c.give_up.new.self in_step
-    (λ why is. let full = returns-in-Err-clause-refused g c s.history in_step.stands why (ap Err is) in (refl, (full.0, stocks_same s c.give_up.new.self (g.D.Disk.disk c.args.disk.now) in_step.live), still_by _ c.args.archive.now c.give_up.new.self s in_step full.1 (given_up_cached c.in-Err.declined c.give_up.result c.args.archive.now c.give_up.new.self (g.D.Disk.disk c.args.disk.now) c.give_up.ensures in_step.cached)))
+    (λ why is. let full = returns-in-Err-clause-refused g c s.history in_step.stands why (ap Err is) in (refl, (full.0, stocks_same s c.give_up.new.self (g.D.Disk.disk c.args.disk.now) in_step.live), still_by _ c.args.archive.now c.give_up.new.self s in_step full.1 (given_up_asked c.in-Err.declined c.give_up.result c.args.archive.now c.give_up.new.self c.give_up.ensures) (given_up_cached c.in-Err.declined c.give_up.result c.args.archive.now c.give_up.new.self (g.D.Disk.disk c.args.disk.now) c.give_up.ensures in_step.cached)))
     (λ is. given_up_never {T = Summary} _ c.in-Err.declined c.give_up.result c.args.archive.now c.give_up.new.self c.give_up.ensures (inr (ap Err is))) (λ is. refl)

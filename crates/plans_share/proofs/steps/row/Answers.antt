@@ -14,6 +14,6 @@ loop-pick-preserved c = record {
 
 pub returns : goal.returns
 returns c = λ rest s.
-    let e : c.loop-pick.pick ≡ length c.args.offer.now.front.items + 1 = search rules in
+    let e : c.loop-pick.pick ≡ length c.args.offer.now.front + 1 = search rules in
     settled_by c.args.offer.now rest (length c.args.below.now) c.args.below.now c.loop-pick.row.items c.requires.cheap s c.loop-pick.invariant.long
     (subst (λ n. (k : ℕ) → k < length c.args.below.now → IsLeastWay (λ j. through c.args.below.now (picked c.args.offer.now j) k) n (slice_index_or c.loop-pick.row.items k None)) e c.loop-pick.invariant.ways)

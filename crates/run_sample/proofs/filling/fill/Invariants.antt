@@ -2,8 +2,7 @@ use Rattle.std.proofs.Common.{length, map, All, IsTrue}
 use Rattle.base_commands.specs.Documents.{HasDocument}
 use Rattle.base_commands.specs.declared.command.Item.TheVariants as items
 use Rattle.base_sample.specs.Laws.{MayBeSampled}
-use Rattle.model_archive.specs.Histories.{History}
-use Rattle.model_archive.specs.Worlds.{world_of}
+use Rattle.model_archive.specs.Worlds.{World}
 use Rattle.archive_hand.specs.States.{AreInStep, Reaches}
 use Rattle.run_sample.specs.Carrying.{ComesToCheck, Counts}
 use Rattle.run_sample.proofs.filling.fill.Given as goal
@@ -16,8 +15,8 @@ invariant-commands g l = record {
   sampled : All MayBeSampled l.rest;
   documents : All HasDocument (map items.Command l.rest);
   comes : ComesToCheck l.rest l.last;
-  counts : g.D.Disk.disk_tells → (h : History) → AreInStep (g.D.Disk.disk l.fn.disk) l.fn.archive h
-      → Counts (world_of h) l.fn.sample l.rest l.tally l.last (g.D.Disk.disk l.fn.disk) (g.D.Disk.disk l.disk) l.archive;
+  counts : g.D.Disk.disk_tells → (h : World) → AreInStep (g.D.Disk.disk l.fn.disk) l.fn.archive h
+      → Counts h l.fn.sample l.rest l.tally l.last (g.D.Disk.disk l.fn.disk) (g.D.Disk.disk l.disk) l.archive;
 }
 
 abbrev pub decreases-commands : goal.decreases-commands

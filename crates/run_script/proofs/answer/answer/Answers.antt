@@ -15,7 +15,7 @@ pub returns-in-Begin-clause-outcome : goal.returns-in-Begin-clause-outcome
 returns-in-Begin-clause-outcome g c = λ tells s in_step. rw (c.in-Command.is, c.in-Begin.is) (refused_by s (items.Command (plain.Begin _ _)) refusals.Line _ _ _ _ (refl, refl) in_step c.refuse-in-Begin.ensures.goes_on c.refuse-in-Begin.ensures.reply)
 
 pub returns-in-Best-clause-outcome : goal.returns-in-Best-clause-outcome
-returns-in-Best-clause-outcome g c = λ tells s in_step. rw (c.in-Command.is, c.in-Best.is) (refused_by s (items.Command (plain.Best _ _ _)) refusals.Line _ _ _ _ (refl, refl) in_step c.refuse-in-Best.ensures.goes_on c.refuse-in-Best.ensures.reply)
+returns-in-Best-clause-outcome g c = λ tells s in_step. rw (c.in-Command.is, c.in-Best.is) (answers_by s _ _ _ _ _ _ _ (c.best-result.ensures.by_reads tells s in_step) c.write_answer-in-Best.ensures.writes)
 
 pub returns-in-Approx-clause-outcome : goal.returns-in-Approx-clause-outcome
 returns-in-Approx-clause-outcome g c = λ tells s in_step. rw (c.in-Command.is, c.in-Approx.is) (answers_by s _ _ _ _ _ _ _ (c.approx-result.ensures.by_reads _ s in_step) c.write_approximated.ensures.writes)
@@ -24,7 +24,7 @@ pub returns-in-Rough-clause-outcome : goal.returns-in-Rough-clause-outcome
 returns-in-Rough-clause-outcome g c = λ tells s in_step. rw (c.in-Command.is, c.in-Rough.is) (answers_by s _ _ _ _ _ _ _ (c.rough-result.ensures.by_reads tells s in_step) c.write_answer-in-Rough.ensures.writes)
 
 pub returns-clause-outcome : goal.returns-clause-outcome
-returns-clause-outcome g c = λ tells s in_step. rw (c.in-Command.is, c.in-Share.is) (refused_by s (items.Command (plain.Share _ _)) refusals.Line _ _ _ _ (refl, refl) in_step c.refuse-in-Share.ensures.goes_on c.refuse-in-Share.ensures.reply)
+returns-clause-outcome g c = λ tells s in_step. rw (c.in-Command.is, c.in-Share.is) (answers_by s _ _ _ _ _ _ _ (c.share-result.ensures.by_reads _ s in_step) c.write_shared.ensures.writes)
 
 pub returns-in_default-clause-outcome : goal.returns-in_default-clause-outcome
 returns-in_default-clause-outcome g c = λ tells s in_step. rw c.in_default.is (refused_by s items.Line refusals.Line _ _ _ _ (refl, refl) in_step c.refuse.ensures.goes_on c.refuse.ensures.reply)

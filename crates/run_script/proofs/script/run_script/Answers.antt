@@ -157,7 +157,7 @@ returns-clause-headline g c = λ source_tells sink_tells disk_tells h stands.
     let (pulls, asked, serves) = served g (goal.at.returns-clause-headline g c).After-serve source_tells sink_tells disk_tells h (stands_loads h d.holds stands) in (
       pulls,
       asked,
-      standing_run (store_of h d) c.serve.result (state_by g.M.Source.source g.M.Sink.sink g.M.Disk.disk m) (g.M.Disk.disk c.load.new.disk) (state_by g.M.Source.source g.M.Sink.sink g.M.Disk.disk c.serve.new.machine) pulls
+      standing_run h d c.serve.result (state_by g.M.Source.source g.M.Sink.sink g.M.Disk.disk m) (g.M.Disk.disk c.load.new.disk) (state_by g.M.Source.source g.M.Sink.sink g.M.Disk.disk c.serve.new.machine) pulls
           (record { loadable = stands.loadable; held = stands.held }) (g.met.M.Machine.beside_shown m sink_tells disk_tells) (c.load.ensures.crash disk_tells h) serves,
     )
 

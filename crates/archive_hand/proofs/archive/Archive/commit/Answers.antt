@@ -55,7 +55,7 @@ returns-clause-crash g c = λ tells bodies step.
 
 -- an archive with the entry
 more : (g : Over) (c : goal.After-drop-body-in-Ok g)
-    → IsMore c.args.self.now (record { end = c.append.new.self.end; live = true; length = c.self.inside.entries + 1; changes = c.note.new.directory.changes; index = state_of c.commit.new.self; shelf = c.self.inside.shelf; marked = c.self.inside.marked })
+    → IsMore c.args.self.now (record { end = c.append.new.self.end; live = true; length = c.self.inside.entries + 1; changes = c.note.new.directory.changes; index = state_of c.commit.new.self; shelf = c.self.inside.shelf; marked = c.self.inside.marked; asked = c.self.inside.asked })
     c.args.prepared.change c.args.prepared.body.items c.args.prepared.words
 more g c =
     rw (← c.self.view_is) (record {
@@ -67,6 +67,7 @@ more g c =
           ∙ ap₂ (λ (d : DocId) (t : Time). c.self.inside.directory.changes ++ record { doc = d; at = t; held = c.placed.result.held } ∷ []) c.placed.ensures.doc c.placed.ensures.at;
       shelf_is = refl;
       marked_is = refl;
+      asked_is = refl;
       indexed = λ texts doc text stands prepared later. c.commit.ensures texts doc text
           (subst (λ (v : IndexValue). AreIndexed v texts) (sym c.make_room.ensures.same) stands)
           (record { doc_is = prepared.doc_is; measured = subst (λ (v : IndexValue). IsMeasured v.words text c.args.prepared.words.fresh.items c.args.prepared.words.weights) (sym c.make_room.ensures.same) prepared.measured }) later;

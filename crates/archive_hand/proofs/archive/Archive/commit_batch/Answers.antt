@@ -80,7 +80,7 @@ taken g c h batch now next =
 
 -- an archive with the batch
 made : (g : Over) (c : goal.After-drop-changes-in-Ok g) (h : History) (batch : List Act) → StandsFor c.args.self.now h → IsNextBatch h batch c.args.prepared
-    → StandsFor (record { end = c.append.new.self.end; live = true; length = c.self.inside.entries + 1; changes = c.note_all.new.directory.changes; index = state_of c.take_in_all.new.index; shelf = c.self.inside.shelf; marked = c.self.inside.marked }) (h ++ Batch batch ∷ [])
+    → StandsFor (record { end = c.append.new.self.end; live = true; length = c.self.inside.entries + 1; changes = c.note_all.new.directory.changes; index = state_of c.take_in_all.new.index; shelf = c.self.inside.shelf; marked = c.self.inside.marked; asked = c.self.inside.asked }) (h ++ Batch batch ∷ [])
 made g c h batch now next =
     let stands = subst (λ (a : ArchiveState). StandsFor a h) (sym c.self.view_is) now in
     stands_batch _ h batch c.args.prepared c.append.new.self.end c.note_all.new.directory.changes (state_of c.take_in_all.new.index) stands next

@@ -36,7 +36,7 @@ returns-in-Err-clause-cached g c = λ tells cached is.
 
 -- the archive with the plan
 abbrev after : (g : Over) (c : goal.After-self-in-Ok-write_ready-2-1 g) → ArchiveState
-after g c = record { end = c.write_ready.new.journal.end; live = true; length = c.self.inside.entries + 1; changes = c.self.inside.directory.changes; index = state_of c.self.inside.index; shelf = c.write_ready.new.shelf; marked = c.self.inside.marked }
+after g c = record { end = c.write_ready.new.journal.end; live = true; length = c.self.inside.entries + 1; changes = c.self.inside.directory.changes; index = state_of c.self.inside.index; shelf = c.write_ready.new.shelf; marked = c.self.inside.marked; asked = c.self.inside.asked }
 
 -- the archive with the plan stands for a history more
 planned : (g : Over) (c : goal.After-self-in-Ok-write_ready-2-1 g) (h : History) → StandsFor c.args.self.now h
@@ -101,6 +101,7 @@ returns-in-Err-write_ready-clause-spent g c = λ is.
       index_is = ap (λ (s : ArchiveState). seen s.index) view;
       shelf_is = subst (λ (s : ArchiveState). HasSameShelf s.shelf c.write_ready.new.shelf) view shelf;
       marked_is = ap (λ (s : ArchiveState). s.marked) view;
+      asked_is = ap (λ (s : ArchiveState). s.asked) view;
       live_is = refl;
     }
 
@@ -127,6 +128,7 @@ returns-in-Ok-write_ready-clause-puts g c = λ tells s now.
         c.in-Ok-write_ready.ensures.summary ∙ ready.told ∙ ap (λ (n : ℕ). tells_of c.args.draft (n + 1)) in_step.stands.length_is,
         record {
           stands = planned g c h now.stands;
+          asked_are = in_step.asked_are;
           journal = rw (← bodies_more h (entries.Planned plan) r.frame ready.framed) (c.in-Ok-write_ready.ensures.entered tells (bodies_of h) in_step.journal);
           pages_are = refl;
           kept_are = refl;

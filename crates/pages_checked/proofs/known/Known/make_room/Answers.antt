@@ -4,7 +4,7 @@ use Rattle.pages_checked.proofs.WeightLemmas.{place_weight, last_out, none_left,
 use Rattle.pages_checked.proofs.known.Known.make_room.Goals as goal
 
 pub overflow_sub-self : goal.overflow_sub-self
-overflow_sub-self c = omega (arith, c.weight.ensures, last_out c.places.self-inside.places.entries, ap place_weight c.in-Some.ensures.value, c.places.invariant.sum)
+overflow_sub-self c = omega (arith, c.free.ensures, last_out c.places.self-inside.places.entries, ap place_weight c.in-Some.ensures.value, c.places.invariant.sum)
 
 pub places-preserved : goal.places-preserved
 places-preserved c =
@@ -13,7 +13,7 @@ places-preserved c =
     let now = ap (λ d. d.entries) c.pop_lru.ensures.entries in
     let gone = drop (length es - 1) es ++ before.behind.0 in
     record {
-      sum = rw now (omega (arith, c.weight.ensures, last_out es, ap place_weight c.in-Some.ensures.value, before.sum, before.few));
+      sum = rw now (omega (arith, c.free.ensures, last_out es, ap place_weight c.in-Some.ensures.value, before.sum, before.few));
       few = omega (arith, before.few);
       wide = ap (λ d. d.cap) c.pop_lru.ensures.entries ∙ before.wide;
       behind = (gone, one_behind c.self.inside.places.entries es before.behind.0 before.behind.1 ∙ ap (λ l. l ++ gone) (sym now));

@@ -13,7 +13,7 @@ overflow_sub-self c =
     let before = c.self.invariant in
     let put = put_in places c.page.result c.args.checked (omega (arith, few_places places.entries, before.0, before.1, before.2)) in
     let out = ap place_weight (sym c.in_ok-old.ensures.old ∙ c.in-Some.is) in
-    omega (arith, c.weight.ensures, c.weight-weight.ensures, put, out, before.0, c.make_room.ensures.room, ap weight_of_all c.self.view_is)
+    omega (arith, c.free.ensures, c.weight-weight.ensures, put, out, before.0, c.make_room.ensures.room, ap weight_of_all c.self.view_is)
 
 pub invariant_of-self-in-Some : goal.invariant_of-self-in-Some
 invariant_of-self-in-Some c =
@@ -22,7 +22,7 @@ invariant_of-self-in-Some c =
     let put = put_in places c.page.result c.args.checked (omega (arith, few_places places.entries, before.0, before.1, before.2)) in
     let out = ap place_weight (sym c.in_ok-old.ensures.old ∙ c.in-Some.is) in
     let room : c.self.inside.size + c.weight-weight.result ≤ 2 ^ 26 = omega (arith, c.make_room.ensures.room, ap weight_of_all c.self.view_is, before.0) in (
-      rw (ap (λ d. d.entries) c.in_ok-old.ensures.entries) (omega (arith, c.weight.ensures, c.weight-weight.ensures, put, out, before.0, room)),
+      rw (ap (λ d. d.entries) c.in_ok-old.ensures.entries) (omega (arith, c.free.ensures, c.weight-weight.ensures, put, out, before.0, room)),
       omega (arith, room),
       ap (λ d. d.cap) c.in_ok-old.ensures.entries ∙ before.2,
     )

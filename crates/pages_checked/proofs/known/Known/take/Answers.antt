@@ -1,6 +1,6 @@
 use Rattle.std.proofs.Common.{nat_eq, ap, sym, ◌∙◌, arith}
 use Rattle.pages_checked.proofs.WeightLemmas.{weight_or, taken_out}
-use Rattle.pages_checked.proofs.known.Known.forget.Goals as goal
+use Rattle.pages_checked.proofs.known.Known.take.Goals as goal
 
 pub overflow_sub-self : goal.overflow_sub-self
 overflow_sub-self c = omega (
@@ -22,11 +22,11 @@ invariant_of-self c =
       ap (λ d. d.cap) c.pop.ensures.entries ∙ before.2,
     )
 
-pub invariant_of-self-in_default : goal.invariant_of-self-in_default
-invariant_of-self-in_default c =
+pub invariant_of-self-in-None : goal.invariant_of-self-in-None
+invariant_of-self-in-None c =
     let now = ap (λ d. d.entries) c.pop.ensures.entries in
     let before = c.self.invariant in (
-      rw now (omega (arith, taken_out (nat_eq c.args.page) c.self.inside.places.entries, ap weight_or (sym c.pop.ensures.value ∙ c.in_default.is), before.0)),
+      rw now (omega (arith, taken_out (nat_eq c.args.page) c.self.inside.places.entries, ap weight_or (sym c.pop.ensures.value ∙ c.in-None.is), before.0)),
       before.1,
       ap (λ d. d.cap) c.pop.ensures.entries ∙ before.2,
     )
