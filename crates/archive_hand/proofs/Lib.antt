@@ -10,3 +10,5 @@ mod LiveLemmas
 mod PutLemmas
 mod StoreLemmas
 mod LoadLemmas
+mod JobLemmas
+mod WorkLemmas

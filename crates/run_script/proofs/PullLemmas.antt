@@ -14,12 +14,12 @@ use Rattle.script_items.proofs.RunLemmas.{read_so_far, reads_start, reads_on, re
 use Rattle.script_items.proofs.Splitting.{broken_once, each_splits, end-is, more-open, not_broken, script_unbroken, script_whole}
 use Rattle.pages_sublists.specs.declared.why.Damage.{Damage}
 use Rattle.model_archive.specs.Standing.{last_state}
-use Rattle.model_archive.proofs.RunLemmas.{last_state_joins, runs_join}
+use Rattle.model_archive.proofs.RunLemmas.{last_state_joins, works_join}
 use Rattle.archive_hand.specs.States.{ArchiveState, AreInStepBy}
-use Rattle.archive_hand.specs.Stored.{Store, StoreStep}
+use Rattle.archive_hand.specs.Stored.{Store, StoreStep, StoreStint, is_at_work}
 use Rattle.run_script.specs.Causes.{IsLater, IsLeft, MayEnd}
 use Rattle.run_script.specs.Headline.{ArePulled, CarriesOutAll, Ends, EndsEarly, InputAt}
-use Rattle.run_script.specs.Outcomes.{Passes}
+use Rattle.run_script.specs.Outcomes.{PassesOn}
 use Rattle.run_script.specs.Serving.{Gives, HasPassed, HasSpoiled, Pulling, next_by}
 use Rattle.run_script.specs.Statuses.{status_of_stop}
 use Rattle.run_script.specs.declared.stop.Stop.{Stop}
@@ -257,20 +257,20 @@ are_pulled old new held items q same =
     }
 
 -- what an item that was taken came to
-pub passes_one : (tells : Type 0) (s : Store) (item : Item) (d : DiskState) (archive : ArchiveState) (source source_now : SourceState) (held held_now : ReaderState) → Passes s item (Ok tt) d archive
+pub passes_one : (tells : Type 0) (s : Store) (item : Item) (d : DiskState) (archive : ArchiveState) (source source_now : SourceState) (held held_now : ReaderState) → PassesOn s item (Ok tt) d archive
     → (tells → (began : SourceState) → (p : Pulling began source held) → Gives held held_now p.since (Ok item) source source_now) → HasPassed tells s d archive source source_now held held_now
-passes_one tells s item d archive source source_now held held_now (reply, next, step, in_step) gives = record {
+passes_one tells s item d archive source source_now held held_now (outcomes, run, in_step) gives = record {
   items = item ∷ [];
-  outcomes = record { reply = reply; next = next } ∷ [];
-  run = (step, tt);
+  outcomes = outcomes;
+  run = run;
   in_step = in_step;
   pulled = λ told began p. pulled_one began source source_now held held_now item p (gives told began p);
 }
 
-pub spoils_one : (tells : Type 0) (s : Store) (item : Item) (status : Status) (stop : Stop) (d : DiskState) (archive : ArchiveState) (source source_now : SourceState) (held held_now : ReaderState) → status ≡ status_of_stop stop → Passes s item (Err stop) d archive
+pub spoils_one : (tells : Type 0) (s : Store) (item : Item) (status : Status) (stop : Stop) (d : DiskState) (archive : ArchiveState) (source source_now : SourceState) (held held_now : ReaderState) → status ≡ status_of_stop stop → PassesOn s item (Err stop) d archive
     → (tells → (began : SourceState) → (p : Pulling began source held) → Gives held held_now p.since (Ok item) source source_now) → (damage : Damage) → status ≡ Damaged damage → HasSpoiled tells s d source source_now held damage
 spoils_one tells s item status stop d archive source source_now held held_now is passes gives damage same =
-    let (spoils, pages) = subst (λ (x : Stop). Passes s item (Err x) d archive) (stopped_at stop damage (sym is ∙ same)) passes in
+    let (spoils, pages) = subst (λ (x : Stop). PassesOn s item (Err x) d archive) (stopped_at stop damage (sym is ∙ same)) passes in
     record {
       before = [];
       outcomes = [];
@@ -286,7 +286,7 @@ pub passed_joins : (tells : Type 0) (s : Store) (d e : DiskState) (a b : Archive
 passed_joins tells s d e a b x y z h i j one more = record {
   items = one.items ++ more.items;
   outcomes = one.outcomes ++ more.outcomes;
-  run = runs_join StoreStep s one.items more.items one.outcomes more.outcomes one.run more.run;
+  run = works_join StoreStep StoreStint is_at_work s one.items more.items one.outcomes more.outcomes one.run more.run;
   in_step = rw (last_state_joins s one.outcomes more.outcomes) more.in_step;
   pulled = λ told began p.
       let first = one.pulled told began p in
@@ -298,7 +298,7 @@ pub spoiled_joins : (tells : Type 0) (s : Store) (d e : DiskState) (a : ArchiveS
 spoiled_joins tells s d e a x y z h i damage one more = record {
   before = one.items ++ more.before;
   outcomes = one.outcomes ++ more.outcomes;
-  run = runs_join StoreStep s one.items more.before one.outcomes more.outcomes one.run more.run;
+  run = works_join StoreStep StoreStint is_at_work s one.items more.before one.outcomes more.outcomes one.run more.run;
   item = more.item;
   spoiled = rw (last_state_joins s one.outcomes more.outcomes) more.spoiled;
   pages_are = rw (last_state_joins s one.outcomes more.outcomes) more.pages_are;
@@ -319,4 +319,4 @@ spoiled_start tells s d began source source_now held damage same is one told =
 
 -- before any
 pub none_passed : (tells : Type 0) (s : Store) (d : DiskState) (a : ArchiveState) (x : SourceState) (h : ReaderState) → AreInStepBy d a s → HasPassed tells s d a x x h h
-none_passed tells s d a x h in_step = record { items = []; outcomes = []; run = tt; in_step = in_step; pulled = λ told began p. (p, sym (append-nil p.items)) }
+none_passed tells s d a x h in_step = record { items = []; outcomes = []; run = refl; in_step = in_step; pulled = λ told began p. (p, sym (append-nil p.items)) }

@@ -19,7 +19,7 @@ but_cache a shelf kept = ap (λ (s : ShelfState). record a { shelf = s }) kept
 
 pub invariant_of-self : goal.invariant_of-self
 invariant_of-self g c =
-    let a : ArchiveState = record { end = c.self.inside.journal.end; live = c.self.inside.live; length = c.self.inside.entries; changes = c.self.inside.directory.changes; index = state_of c.self.inside.index; shelf = c.self.inside.shelf; marked = c.self.inside.marked; asked = c.self.inside.asked } in (
+    let a : ArchiveState = record { end = c.self.inside.journal.end; live = c.self.inside.live; length = c.self.inside.entries; changes = c.self.inside.directory.changes; index = state_of c.self.inside.index; shelf = c.self.inside.shelf; marked = c.self.inside.marked; asked = c.self.inside.asked; job = c.self.inside.job } in (
       c.self.invariant.0,
       c.self.invariant.1,
       sound_but_cache a (record a { shelf = c.gather.new.self }) (but_cache a c.gather.new.self c.gather.ensures.kept) c.self.invariant.2,
@@ -27,5 +27,5 @@ invariant_of-self g c =
 
 pub returns-clause-but_cache : goal.returns-clause-but_cache
 returns-clause-but_cache g c =
-    let a : ArchiveState = record { end = c.self.inside.journal.end; live = c.self.inside.live; length = c.self.inside.entries; changes = c.self.inside.directory.changes; index = state_of c.self.inside.index; shelf = c.self.inside.shelf; marked = c.self.inside.marked; asked = c.self.inside.asked } in
+    let a : ArchiveState = record { end = c.self.inside.journal.end; live = c.self.inside.live; length = c.self.inside.entries; changes = c.self.inside.directory.changes; index = state_of c.self.inside.index; shelf = c.self.inside.shelf; marked = c.self.inside.marked; asked = c.self.inside.asked; job = c.self.inside.job } in
     subst (λ (x : ArchiveState). IsSameButCache x (record a { shelf = c.gather.new.self })) c.self.view_is (but_cache a c.gather.new.self c.gather.ensures.kept)
