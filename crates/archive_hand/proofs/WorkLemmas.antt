@@ -97,7 +97,7 @@ works_dropped s next job why is last full history asked none because =
 abbrev pub went_on : ArchiveState → Job → ArchiveState
 went_on a job = record a { live = true; job = Some (further job) }
 
-stands_on : (a : ArchiveState) (h : History) (job : Job) → a.job ≡ Some job → 8 < job.pages - job.written → StandsFor a h → StandsFor (went_on a job) h
+pub stands_on : (a : ArchiveState) (h : History) (job : Job) → a.job ≡ Some job → 8 < job.pages - job.written → StandsFor a h → StandsFor (went_on a job) h
 stands_on a h job is more stands =
     let waits = waiting a h job is stands in
     record {
