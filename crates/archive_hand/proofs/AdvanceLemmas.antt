@@ -1,8 +1,9 @@
 -- What an archive is behind a stint: it stays sound, reaches as far as it has to, and keeps what it had where the disk failed.
-use Rattle.std.proofs.Common.{All, IsTrue, List, None, Option, Some, [], ap, arith, false, length, refl, subst, sym, ℕ, ◌*◌, ◌++◌, ◌+◌, ◌-◌, ◌<◌, ◌∙◌, ◌∷◌, ◌≡◌, ◌≤◌}
+use Rattle.std.proofs.Common.{IsTrue, List, None, Option, Some, [], ap, arith, false, length, refl, subst, sym, take, ℕ, ◌*◌, ◌++◌, ◌+◌, ◌-◌, ◌<◌, ◌∙◌, ◌∷◌, ◌≡◌, ◌≤◌}
 use Rattle.std.proofs.lemmas.List.{append-nil}
 use Rattle.std.proofs.lemmas.List.Elements.{All-nil}
 use Rattle.machine_model.specs.Areas.{Both}
+use Rattle.machine_model.specs.States.{DiskState}
 use Rattle.journal_gates.specs.Records.{gate_bytes}
 use Rattle.journal_entries.specs.declared.entry.Entry.TheVariants.{Planned}
 use Rattle.journal_entries.proofs.EntryLemmas.{entry_short}
@@ -12,14 +13,14 @@ use Rattle.pages_sublists.specs.Paged.{ReachPages, some_pages}
 use Rattle.model_archive.specs.Histories.{History}
 use Rattle.model_archive.specs.Plans.{live_extents, with_plan}
 use Rattle.archive_plans.specs.Shelves.{ShelfState, extents_all}
-use Rattle.archive_hand.specs.Adding.{HasSameShelf, IsSpent}
+use Rattle.archive_hand.specs.Adding.{IsSpent}
 use Rattle.archive_hand.specs.Jobs.{IsWaiting, job_pages, written_of}
-use Rattle.archive_hand.specs.States.{ArchiveState, IsSound, Reaches, StandsFor}
+use Rattle.archive_hand.specs.States.{ArchiveState, CacheStands, IsSound, Reaches}
 use Rattle.archive_hand.specs.declared.job.Job.{Job}
 use Rattle.archive_hand.proofs.AddLemmas.{inside_on}
 use Rattle.archive_hand.proofs.CacheLemmas.{is_sound, stands_live}
 use Rattle.archive_hand.proofs.JobLemmas.{reach_on}
-use Rattle.archive_hand.proofs.StintLemmas.{reach_more, reach_places, sound_at, sound_waits}
+use Rattle.archive_hand.proofs.StintLemmas.{reach_more, reach_places, sound_at}
 use Rattle.archive_hand.proofs.StoreLemmas.{placed_inside}
 use Rattle.archive_hand.proofs.WorkLemmas.{finished, let_go, plan_now, stands_finished, stands_on, stands_without, went_on}
 
@@ -103,3 +104,13 @@ failed_spent a end shelf back job is ends same given =
       job_is = refl;
       live_is = refl;
     })
+
+-- ---- what is kept
+
+-- what is kept, and what was written of the job
+pub cached_at : (d : DiskState) (a : ArchiveState) (job : Job) → a.job ≡ Some job → CacheStands d a → IsCacheOf (a.shelf.cache ++ take job.written (job_pages job)) d.holds.pages
+cached_at d a job is cached = subst (λ (o : Option Job). IsCacheOf (a.shelf.cache ++ written_of o) d.holds.pages) is cached
+
+-- where nothing is written any more
+pub cached_idle : (cache : List Kept) (pages : List ℕ) → IsCacheOf cache pages → IsCacheOf (cache ++ written_of None) pages
+cached_idle cache pages cached = subst (λ (ks : List Kept). IsCacheOf ks pages) (sym (append-nil cache)) cached

@@ -1,7 +1,6 @@
 -- A plan is begun: what waits then, and what is told of it.
-use Rattle.std.proofs.Common.{List, None, Option, Some, [], ap, arith, length, refl, subst, sym, ℕ, ◌++◌, ◌-◌, ◌∙◌, ◌≡◌, ◌≤◌}
+use Rattle.std.proofs.Common.{IsTrue, List, None, Option, Some, [], ap, arith, length, subst, sym, ℕ, ◌++◌, ◌-◌, ◌∙◌, ◌≡◌, ◌≤◌}
 use Rattle.std.specs.List.{AllZip}
-use Rattle.base_types.specs.declared.time.Time.{Time}
 use Rattle.base_commands.specs.declared.command.Kind.{Kind}
 use Rattle.base_commands.specs.declared.command.Kind.TheVariants.{Guarantee}
 use Rattle.pages_area.specs.Taken.{AreApart, HasTaken}
@@ -12,19 +11,20 @@ use Rattle.plans_kinds.specs.Plans.{IsCostOf, plan_space}
 use Rattle.model_archive.specs.Histories.{History, end_of}
 use Rattle.model_archive.specs.Plans.{live_extents}
 use Rattle.model_archive.specs.Steps.{pages_in}
-use Rattle.model_archive.specs.Worlds.{Job as ModelJob}
 use Rattle.model_archive.specs.declared.summary.Summary.{Summary}
 use Rattle.archive_plans.specs.Readying.{HasPlaces, IsReady}
 use Rattle.archive_plans.specs.Shelves.{ShelfState}
 use Rattle.archive_plans.specs.declared.readying.Draft.{Draft}
 use Rattle.archive_plans.specs.declared.readying.Ready.{Ready}
-use Rattle.archive_hand.specs.Jobs.{IsWaiting, plain_job}
-use Rattle.archive_hand.specs.States.{ArchiveState, StandsFor}
+use Rattle.archive_hand.specs.Jobs.{IsWaiting, places_of, plain_job}
+use Rattle.archive_hand.specs.States.{ArchiveState, IsSound, StandsFor}
 use Rattle.archive_hand.specs.Storing.{IsDraft, IsTakenOn}
 use Rattle.archive_hand.specs.declared.job.Begun.{Begun}
 use Rattle.archive_hand.specs.declared.job.Job.{Job}
+use Rattle.archive_hand.proofs.CacheLemmas.{is_sound, stands_live}
+use Rattle.archive_hand.proofs.JobLemmas.{under_way_more}
 use Rattle.archive_hand.proofs.StintLemmas.{pages_many}
-use Rattle.archive_hand.proofs.StoreLemmas.{ready_storable, ready_stored}
+use Rattle.archive_hand.proofs.StoreLemmas.{ready_storable, ready_stored, stands_still}
 
 -- what is ready, of which no page is written
 abbrev pub job_of : Ready → ℕ → Job
@@ -80,3 +80,15 @@ begun_taken h draft end count pages r b ready at has many segments are =
       segments_are = segments ∙ ap (λ (s : Summary). s.segments) ready.told ∙ sym (ap (λ (p : PlanEntry). length p.cuts) ready.plan_is);
       pages_are = are ∙ all;
     }
+
+-- ---- and where it isn't
+
+-- the shelf alone changes, and of it the pages and the room
+pub same_but : (a : ArchiveState) (shelf : ShelfState) (job : Option Job) → shelf.plans ≡ a.shelf.plans → shelf.cache ≡ a.shelf.cache
+    → ◌≡◌ {A = ArchiveState} (record a { shelf = shelf; job = job }) (record a { shelf = record (a.shelf) { pages = shelf.pages; room = shelf.room }; job = job })
+same_but a shelf job plans cache = λ i. record a { shelf = record { plans = plans i; pages = shelf.pages; cache = cache i; room = shelf.room }; job = job }
+
+pub still_sound : (a : ArchiveState) (sound : IsSound a) (shelf : ShelfState) → IsTrue a.live → shelf.plans ≡ a.shelf.plans → HasTaken shelf.pages (places_of a.job ++ live_extents sound.0) → a.shelf.room ≤ shelf.room → IsSound (record a { shelf = shelf })
+still_sound a sound shelf live plans pages room =
+    let stands = stands_live a sound live in
+    is_sound (record a { shelf = shelf }) sound.0 (stands_still a sound.0 shelf stands plans pages (under_way_more sound.0 a.shelf.room shelf.room a.job room stands.under_way))

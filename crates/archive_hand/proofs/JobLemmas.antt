@@ -1,5 +1,5 @@
 -- A plan that is being written goes on waiting, and its pages hold what was written.
-use Rattle.std.proofs.Common.{All, IsSome, List, None, Option, Some, [], ap, arith, get_or, inl, inr, length, refl, subst, sym, take, zero-add, ℕ, ◌*◌, ◌++◌, ◌+◌, ◌<◌, ◌∙◌, ◌∷◌, ◌≡◌, ◌≤◌}
+use Rattle.std.proofs.Common.{All, IsSome, List, None, Option, Some, [], ap, arith, inl, inr, length, refl, subst, sym, take, ℕ, ◌*◌, ◌++◌, ◌+◌, ◌∷◌, ◌≡◌, ◌≤◌}
 use Rattle.std.specs.List.{AllZip}
 use Rattle.std.proofs.lemmas.List.Elements.{All-append, All-nil, All-take, All-weaker}
 use Rattle.base_types.specs.declared.extent.Extent.{Extent}

@@ -1,5 +1,5 @@
 -- The calls of a stint: what is asked of them, and what the last pages come to on the disk.
-use Rattle.std.proofs.Common.{All, Bool, IsTrue, List, None, Option, Some, [], ap, arith, get_or, inl, inr, length, length-append, refl, subst, sym, take, ℕ, ◌*◌, ◌++◌, ◌+◌, ◌-◌, ◌<◌, ◌∙◌, ◌∷◌, ◌≡◌, ◌≤◌}
+use Rattle.std.proofs.Common.{All, Bool, IsTrue, List, Option, Some, [], ap, arith, get_or, inl, inr, length, length-append, refl, subst, sym, take, ℕ, ◌*◌, ◌++◌, ◌+◌, ◌-◌, ◌<◌, ◌∙◌, ◌∷◌, ◌≡◌, ◌≤◌}
 use Rattle.std.specs.List.{AllZip}
 use Rattle.std.proofs.Math.Seq.{take-add}
 use Rattle.std.proofs.lemmas.Bool.{cases_lt}
@@ -13,7 +13,7 @@ use Rattle.machine_model.specs.States.{DiskState}
 use Rattle.base_types.specs.declared.extent.Extent.{Extent}
 use Rattle.journal_gates.specs.Crash.{Appends, KeepsPages}
 use Rattle.journal_gates.specs.InStep.{IsInStep}
-use Rattle.pages_area.specs.Caches.{Kept, IsHeld, StandsFor as IsCacheOf}
+use Rattle.pages_area.specs.Caches.{Kept, StandsFor as IsCacheOf}
 use Rattle.pages_area.specs.CacheLaws.{LieIn}
 use Rattle.pages_area.specs.Crash.{ChangesOnly}
 use Rattle.pages_area.specs.Live.{IsInside}
@@ -27,6 +27,7 @@ use Rattle.journal_entries.specs.declared.place.Place.{Place}
 use Rattle.pages_sublists.specs.Paged.{ReachPages, WrotePages, page_ranges, pages_of, some_pages}
 use Rattle.pages_sublists.specs.Preparing.{IsFor, PreparedState, extents, pieces, pieces_of}
 use Rattle.pages_sublists.proofs.StintLemmas.{places_reach, rest_stored, some_change_places}
+use Rattle.model_archive.specs.Plans.{live_extents}
 use Rattle.model_archive.specs.Steps.{pages_in}
 use Rattle.model_archive.specs.declared.stored.StoredPlan.{StoredPlan}
 use Rattle.archive_plans.specs.Shelves.{extents_all}
@@ -71,6 +72,9 @@ pub sound_taken : (a : ArchiveState) (sound : IsSound a) (job : Job) → a.job �
 sound_taken a sound job is =
     let has = subst (λ (l : List StoredPlan). HasTaken a.shelf.pages (places_of a.job ++ extents_all l)) (sym sound.1.plans_are) sound.1.pages_are in
     subst (λ (o : Option Job). HasTaken a.shelf.pages (places_of o ++ extents_all a.shelf.plans)) is has
+
+pub sound_live : (a : ArchiveState) (sound : IsSound a) (job : Job) → a.job ≡ Some job → HasTaken a.shelf.pages (extents job.ready.prepared.places ++ live_extents sound.0)
+sound_live a sound job is = subst (λ (o : Option Job). HasTaken a.shelf.pages (places_of o ++ live_extents sound.0)) is sound.1.pages_are
 
 -- none of its pages is kept
 pub sound_unkept : (a : ArchiveState) (sound : IsSound a) (job : Job) → a.job ≡ Some job → LieIn (extents_all a.shelf.plans) a.shelf.cache → All (λ k. IsTaken (extents job.ready.prepared.places) k.page → ⊥) a.shelf.cache

@@ -8,7 +8,6 @@ use Rattle.machine_model.specs.Images.{MayLeave}
 use Rattle.machine_model.specs.States.{DiskState, moment}
 use Rattle.machine_model.proofs.MomentLemmas.{allowed_left}
 use Rattle.base_types.specs.Limits.{limit_of}
-use Rattle.base_types.specs.declared.extent.Extent.{Extent}
 use Rattle.base_types.specs.declared.which.Which.TheVariants.{Journal}
 use Rattle.lists_versions.specs.Tests.{when}
 use Rattle.journal_gates.specs.InStep.{IsInStep}

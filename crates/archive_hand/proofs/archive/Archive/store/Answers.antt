@@ -49,6 +49,14 @@ returns-in-Err-clause-cached g c = λ tells cached is.
     (cached_on (c.args.self.now.shelf.cache ++ written_of c.args.self.now.job) (c.make_ready.new.shelf.cache ++ written_of c.self.inside.job) disk disk
     (ap (λ (ks : List Kept). ks ++ written_of c.self.inside.job) c.in-Err.ensures.cache ∙ ap (λ (s : ArchiveState). s.shelf.cache ++ written_of s.job) c.self.view_is) refl cached)
 
+-- its pages are taken beside those of the live plans, and of a plan that is being written
+pub write_ready-requires-clause-taken : goal.write_ready-requires-clause-taken
+write_ready-requires-clause-taken g c =
+    let stands = c.self.invariant.2.1 in (
+      places_of c.self.inside.job,
+      subst (λ (l : List StoredPlan). HasTaken c.make_ready.new.shelf.pages (extents c.in-Ok.ready.prepared.places ++ (places_of c.self.inside.job ++ extents_all l))) (sym (c.in-Ok.ensures.plans ∙ stands.plans_are)) (c.in-Ok.ensures.taken _ stands.pages_are),
+    )
+
 -- the archive with the plan
 abbrev after : (g : Over) (c : goal.After-self-in-Ok-write_ready-2-1 g) → ArchiveState
 after g c = record { end = c.write_ready.new.journal.end; live = true; length = c.self.inside.entries + 1; changes = c.self.inside.directory.changes; index = state_of c.self.inside.index; shelf = c.write_ready.new.shelf; marked = c.self.inside.marked; asked = c.self.inside.asked; job = c.self.inside.job }
