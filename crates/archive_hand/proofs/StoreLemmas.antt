@@ -1,5 +1,5 @@
 -- A plan that is ready is stored: that it may come next, and what the archive stands for with it, or without.
-use Rattle.std.proofs.Common.{◌≡◌, ℕ, ◌+◌, ◌-◌, ◌≤◌, List, [], ◌∷◌, ◌++◌, length, All, Option, IsSome, true, ap, sym, subst, ◌∙◌, arith, refl}
+use Rattle.std.proofs.Common.{◌≡◌, ℕ, ◌+◌, ◌-◌, ◌≤◌, List, [], ◌∷◌, ◌++◌, length, All, Option, IsSome, false, true, ap, sym, subst, ◌∙◌, arith, refl}
 use Rattle.std.specs.List.{AllZip}
 use Rattle.std.proofs.lemmas.List.{length_push}
 use Rattle.std.proofs.lemmas.List.Elements.{All-map}
@@ -23,7 +23,7 @@ use Rattle.model_archive.proofs.HistoryLemmas.{end_of-push, loadable-push, entry
 use Rattle.model_archive.proofs.LiveLemmas.{live_plans-push}
 use Rattle.model_archive.proofs.StoringLemmas.{plan_legal}
 use Rattle.archive_hand.specs.Adding.{HasSameShelf}
-use Rattle.archive_hand.specs.States.{ArchiveState, StandsFor}
+use Rattle.archive_hand.specs.States.{ArchiveState, StandsBut, StandsFor}
 use Rattle.archive_plans.specs.Shelves.{ShelfState, extents_all}
 use Rattle.archive_plans.specs.Readying.{HasPlaces, IsReady}
 use Rattle.archive_hand.specs.Storing.{IsDraft, IsStorable, IsStoredAs}
@@ -33,7 +33,7 @@ use Rattle.archive_entries.proofs.IndexLemmas.{changes_still}
 use Rattle.archive_entries.proofs.PlaceLemmas.{placed_plan}
 use Rattle.archive_hand.proofs.AddLemmas.{inside_on}
 use Rattle.archive_hand.proofs.LiveLemmas.{all_inside_with}
-use Rattle.archive_hand.proofs.JobLemmas.{apart_without, under_way_planned}
+use Rattle.archive_hand.proofs.JobLemmas.{apart_without, under_way_more, under_way_planned}
 use Rattle.archive_hand.specs.Jobs.{IsUnderWay, places_of}
 use Rattle.archive_hand.specs.declared.job.Job.{Job}
 use Rattle.journal_entries.specs.Spelling.{spelling}
@@ -137,4 +137,18 @@ stands_still a h shelf stands plans pages waits = record {
   pages_are = pages;
   marked_is = stands.marked_is;
   under_way = waits;
+}
+
+-- and of one that is spent
+pub still_but : (a : ArchiveState) (h : History) (end : ℕ) (shelf : ShelfState) → StandsBut a h → end ≡ a.end → shelf.plans ≡ a.shelf.plans → HasTaken shelf.pages (places_of a.job ++ live_extents h) → a.shelf.room ≤ shelf.room
+    → StandsBut (record a { end = end; live = false; shelf = shelf }) h
+still_but a h end shelf stands at plans pages room = record {
+  loadable = stands.loadable;
+  end_is = at ∙ stands.end_is;
+  length_is = stands.length_is;
+  changes_are = stands.changes_are;
+  plans_are = plans ∙ stands.plans_are;
+  pages_are = pages;
+  marked_is = stands.marked_is;
+  under_way = under_way_more h a.shelf.room shelf.room a.job room stands.under_way;
 }

@@ -39,8 +39,7 @@ write_next-requires-clause-taken g c =
     let a : ArchiveState = record { end = c.self.inside.journal.end; live = c.self.inside.live; length = c.self.inside.entries; changes = c.self.inside.directory.changes; index = state_of c.self.inside.index; shelf = c.self.inside.shelf; marked = c.self.inside.marked; asked = c.self.inside.asked; job = c.self.inside.job } in
     let job = c.in-Some.job in
     let is : a.job ≡ Some job = sym c.take.ensures.value ∙ c.in-Some.is in
-    let sound : IsSound a = c.self.invariant.2 in
-    (
+    let sound : IsSound a = c.self.invariant.2 in (
       extents_all a.shelf.plans,
       subst (λ (s : SublistsState). HasTaken s.pages (extents job.ready.prepared.places ++ extents_all a.shelf.plans)) (sym c.sublists.ensures.value) (sound_taken a sound job is),
     )
@@ -225,8 +224,7 @@ invariant_of-self-in-Ok-finish g c =
     let is : a.job ≡ Some job = sym c.take.ensures.value ∙ c.in-Some.is in
     let sound : IsSound a = c.self.invariant.2 in
     let live = subst (λ (s : ArchiveState). IsTrue s.live) (sym c.self.view_is) c.requires.live in
-    let none : c.take.new.self ≡ None = c.take.ensures.after in
-    (
+    let none : c.take.new.self ≡ None = c.take.ensures.after in (
       λ now. c.in-Ok-finish.ensures.live,
       omega (arith, c.self.invariant.1, c.in-Ok-finish.ensures.end),
       subst (λ (o : Option Job). IsSound (record a { end = c.finish.new.journal.end; live = true; length = a.length + 1; shelf = c.finish.new.shelf; job = o })) (sym none) (finished_sound a sound job c.finish.new.journal.end c.finish.new.shelf live is c.in-Ok-finish.ensures.end c.in-Ok-finish.ensures.plans c.in-Ok-finish.ensures.pages),
@@ -280,8 +278,7 @@ invariant_of-self-in-Err-finish g c =
     let job = c.in-Some.job in
     let is : a.job ≡ Some job = sym c.take.ensures.value ∙ c.in-Some.is in
     let sound : IsSound a = c.self.invariant.2 in
-    let live = subst (λ (s : ArchiveState). IsTrue s.live) (sym c.self.view_is) c.requires.live in
-    (
+    let live = subst (λ (s : ArchiveState). IsTrue s.live) (sym c.self.view_is) c.requires.live in (
       λ now. absurd (false≢true now),
       omega (arith, c.self.invariant.1, c.in-Err-finish.ensures.spent.0),
       failed_sound a sound c.finish.new.journal.end c.finish.new.shelf c.in-Err-finish.job job live is c.in-Err-finish.ensures.spent.0 c.in-Err-finish.ensures.spent.1 c.in-Err-finish.ensures.back,

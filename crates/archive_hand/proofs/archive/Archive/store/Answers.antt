@@ -1,5 +1,6 @@
 use Rattle.std.proofs.Common.{◌≡◌, ℕ, ◌+◌, List, ◌∷◌, [], ◌++◌, Option, true, inl, inr, refl, ap, sym, subst, ◌∙◌, arith, rules}
 use Rattle.std.specs.List.{AllZip}
+use Rattle.std.proofs.lemmas.Bool.{false≢true}
 use Rattle.machine_model.specs.declared.area.Area.TheVariants.{Journal, Pages}
 use Rattle.journal_entries.specs.declared.entry.Entry.TheVariants as entries
 use Rattle.lists_index.specs.Indexes.{seen, state_of}
@@ -25,7 +26,7 @@ use Rattle.archive_hand.proofs.ByReadsLemmas.{all_same, same_as}
 use Rattle.archive_hand.proofs.PutLemmas.{begun_keeps, put_there}
 use Rattle.archive_hand.proofs.CacheLemmas.{cached_on, is_sound, stands_live}
 use Rattle.archive_hand.proofs.JobLemmas.{both_stand, kept_part, reach_on, taken_same, under_way_more, written_apart, written_part}
-use Rattle.archive_hand.proofs.StoreLemmas.{ready_storable, ready_stored, stands_planned, placed_inside, same_shelf, stands_still}
+use Rattle.archive_hand.proofs.StoreLemmas.{ready_storable, ready_stored, stands_planned, placed_inside, same_shelf, stands_still, still_but}
 use Rattle.archive_hand.proofs.archive.Archive.store.Given.{Over}
 use Rattle.archive_hand.proofs.archive.Archive.store.Goals as goal
 
@@ -83,6 +84,22 @@ invariant_of-self-in-Ok-write_ready g c =
       λ live. search rules,
       omega (arith, c.self.invariant.1, c.in-Ok-write_ready.ensures.end),
       is_sound _ (h ++ entries.Planned c.in-Ok.ready.stored.plan ∷ []) (planned g c h (stands_live c.args.self.now sound c.requires.live)),
+    )
+
+pub invariant_of-self-in-Err-write_ready : goal.invariant_of-self-in-Err-write_ready
+invariant_of-self-in-Err-write_ready g c =
+    let a : ArchiveState = record { end = c.self.inside.journal.end; live = c.self.inside.live; length = c.self.inside.entries; changes = c.self.inside.directory.changes; index = state_of c.self.inside.index; shelf = c.self.inside.shelf; marked = c.self.inside.marked; asked = c.self.inside.asked; job = c.self.inside.job } in
+    let h = c.self.invariant.2.0 in
+    let stands = c.self.invariant.2.1 in
+    let spent = c.in-Err-write_ready.ensures.spent in (
+      λ now. absurd (false≢true now),
+      omega (arith, c.self.invariant.1, spent.0),
+      (
+        h,
+        still_but a h c.write_ready.new.journal.end c.write_ready.new.shelf stands spent.0 (spent.1 ∙ c.in-Ok.ensures.plans) (c.in-Err-write_ready.ensures.freed _ (c.in-Ok.ensures.taken _ stands.pages_are))
+            (omega (arith, spent.3, c.make_ready.ensures.more)),
+        λ now. absurd (false≢true now),
+      ),
     )
 
 pub returns-in-Ok-write_ready-clause-within : goal.returns-in-Ok-write_ready-clause-within
