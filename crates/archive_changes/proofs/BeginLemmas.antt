@@ -1,5 +1,5 @@
--- A plan that is begun: what the plan that is being written leaves of that, and that it is a step by what reads give.
-use Rattle.std.proofs.Common.{◌≡◌, ℕ, ◌+◌, ◌*◌, ◌≤◌, Bool, true, false, bytes_eq, option_map, All, List, [], ◌++◌, length, Option, Some, None, Result, Ok, Err, IfOk, OnErr, refl, ap, sym, subst, ◌∙◌}
+-- A plan that is begun: what the archive reaches and keeps then, and that it is a step by what reads give.
+use Rattle.std.proofs.Common.{◌≡◌, ℕ, ◌+◌, ◌*◌, ◌≤◌, All, List, [], ◌++◌, length, Option, Some, None, Result, Ok, Err, IfOk, OnErr, refl, ap, sym, subst, ◌∙◌}
 use Rattle.std.proofs.lemmas.List.Elements.{All-nil}
 use Rattle.machine_model.specs.Areas.{Both}
 use Rattle.machine_model.specs.States.{DiskState}
@@ -12,11 +12,10 @@ use Rattle.pages_area.specs.Live.{IsInside}
 use Rattle.pages_sublists.specs.Paged.{ReachPages}
 use Rattle.text_words.specs.Terms.{one_term}
 use Rattle.model_archive.specs.declared.refusal.Refusal.{Refusal}
-use Rattle.model_archive.specs.declared.refusal.Refusal.TheVariants as refusals
 use Rattle.model_archive.specs.Planning.{IsKnown}
 use Rattle.model_archive.specs.Plans.{live_extents}
 use Rattle.model_archive.specs.Steps as steps
-use Rattle.model_archive.specs.Steps.{Begins, ByWord, OfIdle, OfStill, Refused, spelled_key}
+use Rattle.model_archive.specs.Steps.{Begins, Refused, spelled_key}
 use Rattle.model_archive.specs.Worlds.{Job, World}
 use Rattle.archive_entries.specs.declared.error.Declined.{Declined}
 use Rattle.archive_entries.specs.declared.error.Declined.TheVariants as declines
@@ -29,45 +28,9 @@ use Rattle.archive_hand.specs.Stored.{Store, world_by}
 use Rattle.archive_hand.specs.Storing.{IsDraft, IsTakenOn}
 use Rattle.archive_hand.specs.Takes.{TakesBy}
 use Rattle.archive_hand.specs.declared.job.Begun.{Begun}
-use Rattle.archive_hand.specs.declared.job.Job.{Job as HandJob}
 use Rattle.archive_hand.proofs.ByReadsLemmas.{keeps_nowhere}
 use Rattle.archive_changes.specs.Endings.{begun}
 use Rattle.archive_changes.proofs.PlanLemmas.{IsSameBut, begins_full, begins_taken, begun_by}
-
--- ---- whether a plan is being written, and of which word
-
--- whether the plan that is being written is one of a word
-abbrev pub written : List ℕ → Option HandJob → Option Bool
-written word job = option_map (λ (j : HandJob). bytes_eq j.ready.stored.plan.word word) job
-
--- where none of the word is, it goes on
-pub still_goes_on : (job : Option HandJob) (word : List ℕ) → (written word job ≡ Some true → ⊥) → OfStill (plain_job job) word (λ why. ⊥) (Unit {0})
-still_goes_on None word other = tt
-still_goes_on (Some job) word other = go (bytes_eq job.ready.stored.plan.word word) other
-  where
-    go : (b : Bool) → (Some b ≡ Some true → ⊥) → ByWord b ⊥ (Unit {0})
-    go true other = other refl
-    go false other = tt
-
--- where one of it is, it is refused
-pub still_refused : (job : Option HandJob) (word : List ℕ) (Refuses : Refusal → Type 0) (GoesOn : Type 0) → written word job ≡ Some true → Refuses refusals.Busy → OfStill (plain_job job) word Refuses GoesOn
-still_refused None word Refuses GoesOn is refused = absurd cc
-still_refused (Some job) word Refuses GoesOn is refused =
-    let same : bytes_eq job.ready.stored.plan.word word ≡ true = cc in
-    subst (λ (b : Bool). ByWord b (Refuses refusals.Busy) GoesOn) (sym same) refused
-
--- and so it is to be begun, also where one of another word is
-pub idle_refused : (job : Option HandJob) (word : List ℕ) (b : Bool) (Refuses : Refusal → Type 0) (GoesOn : Type 0) → written word job ≡ Some b → ByWord b (Refuses refusals.Busy) (Refuses refusals.OneJob)
-    → OfIdle (plain_job job) word Refuses GoesOn
-idle_refused None word b Refuses GoesOn is refused = absurd cc
-idle_refused (Some job) word b Refuses GoesOn is refused =
-    let same : bytes_eq job.ready.stored.plan.word word ≡ b = cc in
-    subst (λ (t : Bool). ByWord t (Refuses refusals.Busy) (Refuses refusals.OneJob)) (sym same) refused
-
--- where none is
-pub none_written : (job : Option HandJob) (word : List ℕ) → written word job ≡ None → job ≡ None
-none_written None word is = refl
-none_written (Some job) word is = absurd cc
 
 -- ---- what it reaches and keeps
 

@@ -53,7 +53,7 @@ wide_or_not Uniform h list factor cuts Refuses GoesOn good goes = goes
 wide_or_not (Since at) h list factor cuts Refuses GoesOn good goes = goes
 
 -- a draft is a plan for its phrase, which so goes on
-pub phrase_draft : (h : History) (phrase : List ℕ) (kind : Kind) (draft : Draft) (Refuses : Refusal → Type 0) (GoesOn : List ℕ → List Posting → Type 0) → spelled_key (one_term phrase) ≡ Some draft.word → IsKnown h draft.word → draft.kind ≡ kind → IsDraft h draft
+phrase_draft : (h : History) (phrase : List ℕ) (kind : Kind) (draft : Draft) (Refuses : Refusal → Type 0) (GoesOn : List ℕ → List Posting → Type 0) → spelled_key (one_term phrase) ≡ Some draft.word → IsKnown h draft.word → draft.kind ≡ kind → IsDraft h draft
     → GoesOn draft.word draft.list.items → OfPhrase kind h (spelled_key (one_term phrase)) Refuses GoesOn
 phrase_draft h phrase kind draft Refuses GoesOn term known kind_is is goes =
     let list = draft.list.items in

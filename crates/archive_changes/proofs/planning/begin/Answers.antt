@@ -1,4 +1,4 @@
-use Rattle.std.proofs.Common.{Option, Err, ap, sym, subst, ◌∙◌}
+use Rattle.std.proofs.Common.{◌≡◌, Option, Err, ap, sym, subst, ◌∙◌}
 use Rattle.std.proofs.lemmas.Result.{IfOk-weaker, err_from_is_err_and}
 use Rattle.journal_gates.proofs.LoadLemmas.{exit_is}
 use Rattle.base_commands.specs.declared.command.Kind.TheVariants.{Guarantee}

@@ -1,13 +1,10 @@
-use Rattle.std.proofs.Common.{◌≡◌, sym, ◌∙◌}
+use Rattle.std.proofs.Common.{◌≡◌}
 use Rattle.std.proofs.lemmas.Result.{err_from_is_err_and}
 use Rattle.journal_gates.proofs.LoadLemmas.{exit_is}
 use Rattle.text_words.specs.Terms.{one_term}
-use Rattle.model_archive.specs.declared.refusal.Refusal.TheVariants as refusals
 use Rattle.model_archive.specs.Steps.{OfStill, spelled_key}
 use Rattle.archive_hand.specs.Jobs.{plain_job}
-use Rattle.archive_hand.proofs.PhraseLemmas.{map_phrase, one_why}
-use Rattle.archive_changes.proofs.BeginLemmas.{still_goes_on, still_refused}
-use Rattle.archive_changes.proofs.PlanLemmas.{phrase_draft}
+use Rattle.archive_hand.proofs.PhraseLemmas.{map_phrase}
 use Rattle.archive_changes.proofs.planning.still_draft.Goals as goal
 
 pub returns-in_err-draft-clause-refused : goal.returns-in_err-draft-clause-refused
