@@ -16,7 +16,7 @@ use Rattle.model_archive.specs.Planning.{IsKnown}
 use Rattle.model_archive.specs.Plans.{live_extents}
 use Rattle.model_archive.specs.Steps as steps
 use Rattle.model_archive.specs.Steps.{Begins, Refused, spelled_key}
-use Rattle.model_archive.specs.Worlds.{Job, World}
+use Rattle.model_archive.specs.Worlds.{Job}
 use Rattle.archive_entries.specs.declared.error.Declined.{Declined}
 use Rattle.archive_entries.specs.declared.error.Declined.TheVariants as declines
 use Rattle.archive_plans.specs.declared.readying.Draft.{Draft}
