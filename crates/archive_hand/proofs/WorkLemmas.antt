@@ -155,7 +155,7 @@ stint_wrote s a job old new in_step is more changes allowed cached =
         read_is = refl;
         job_is = refl;
         live = (All-weaker (HasSame s.pages new.holds.pages) (IsInside (length new.holds.pages)) (λ e has. has.0) live same, in_step.live.1);
-        same = λ image left. both_same s.pages new.holds.pages image live same (stood image left).same;
+        same = λ image left. both_same s.pages new.holds.pages image.pages live same (stood image left).same;
         cached = cached;
       },
     )
