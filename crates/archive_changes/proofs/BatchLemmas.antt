@@ -108,7 +108,7 @@ on_whole (Err error) X is = tt
 
 -- an archive that is spent has what it had
 pub spent_but : (a : ArchiveState) → IsSpentBut a (record a { live = false })
-spent_but a = record { end_is = refl; length_is = refl; changes_are = refl; shelf_is = record { plans_are = refl; taken = λ es has. has; cache_is = refl }; marked_is = refl; asked_is = refl; live_is = refl }
+spent_but a = record { end_is = refl; length_is = refl; changes_are = refl; shelf_is = record { plans_are = refl; room = omega arith; taken = λ es has. has; cache_is = refl }; marked_is = refl; asked_is = refl; job_is = refl; live_is = refl }
 
 -- where a batch was declined, nothing was called
 pub declined_after : (tells X : Type 0) (why : BatchDeclined) (error : BatchError) (a b : ArchiveState) (d : DiskState) → X → IsTrue a.live → Reaches d.reach a → GivesUpAll why error a b

@@ -39,7 +39,7 @@ returns-in-Ok-clause-by_reads g c = λ tells s in_step.
     let cached = rw same at c.commit_batch.ensures.cached in
     let led = entry_led r c.commit_batch.new.self (g.D.Disk.disk c.args.disk.now) (g.D.Disk.disk c.commit_batch.new.disk) s e c.in-Ok.prepared.body.items c.args.archive.now in_step tt next.spelled
     (IfOk-weaker r _ (λ _. StandsFor c.commit_batch.new.self (s.history ++ e ∷ [])) (λ n is. is.0) (made s.history (flat_map act_of c.args.items.now) in_step.stands next))
-    (crash tells (bodies_of s.history) in_step.journal) (c.commit_batch.ensures.pages tells) (c.commit_batch.ensures.pages_hold tells) (step tells (bodies_of s.history) in_step.journal) (λ ok. cached tells in_step.cached (inl ok)) (λ ok. rw same at c.commit_batch.ensures.unasked) in
+    (crash tells (bodies_of s.history) in_step.journal) (c.commit_batch.ensures.pages tells) (c.commit_batch.ensures.pages_hold tells) (step tells (bodies_of s.history) in_step.journal) (λ ok. cached tells in_step.cached (inl ok)) (λ ok. rw same at c.commit_batch.ensures.unasked) (λ ok. rw same at c.commit_batch.ensures.idle) in
     batch_by s (given.Command (commands.Batch (Items c.args.items.now))) e (batch_cause s.history c.args.items.now) c.for_whole.result _ _ c.args.archive.now c.commit_batch.new.self tt
     (λ reply next adds job stocks. (adds, job, stocks)) in_step (returns-in-Ok-clause-adds g c s.history in_step.stands)
     (λ why index is. let was = unchanged why (told ∙ ap plainly is) in (was.0, ap g.D.Disk.disk was.1))
