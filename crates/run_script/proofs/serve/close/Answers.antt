@@ -8,7 +8,7 @@ use Rattle.run_script.proofs.serve.close.Goals as goal
 
 pub stints-init : goal.stints-init
 stints-init g c = record {
-  ready = c.requires;
+  ready = c.requires.ready;
   source = refl;
   asked = g.met.M.Machine.asked_laws.of_disk c.args.machine.now c.args.machine.now (g.met.M.Disk.only_same c.args.machine.now);
   later = record { source = omega arith; sink = omega arith; disk = omega arith };
