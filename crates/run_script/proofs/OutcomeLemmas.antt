@@ -1,5 +1,6 @@
 -- An item answered and its reply shown: what a call of the archive did, what is written of it, and what is shown of that.
 use Rattle.std.proofs.Common.{◌≡◌, ◌↔◌, ℕ, ◌+◌, ◌<◌, ◌≤◌, List, [], ◌++◌, length, All, None, Result, Ok, Err, IsErr, IsOk, IsTrue, OnErr, OnOk, refl, inl, inr, ap, subst, sym, ◌∙◌, arith, append_assoc}
+use Rattle.std.proofs.lemmas.Bool.{false≢true}
 use Rattle.std.proofs.lemmas.List.{append-nil, append_cancel_left, length-append}
 use Rattle.machine_model.specs.Areas.{Bytes}
 use Rattle.machine_model.specs.Images.{MayLeave}
@@ -91,21 +92,21 @@ worked_by s (Err failed) halted old new archive page (inl keeps) is = record { c
 worked_by s (Err failed) halted old new archive page (inr (told, next, step, leads)) is = record { came = rw is (inr (Finished told, next, step, speaks_bytes (Finished told) tt, leads)) }
 
 -- what a stint leaves where it was made
-pub worked_left : (tells : Type 0) (stint : Result Stint Failed) (result : Result (Unit {0}) Halt) (old new : DiskState) (a b : ArchiveState) → OnOk result (IsOk stint) → IsTrue b.live ↔ IsOk stint → Reaches new.reach b → (tells → CacheStands old a → OnOk stint (CacheStands new b))
+pub worked_left : (tells : Type 0) (stint : Result Stint Failed) (result : Result (Unit {0}) Halt) (old new : DiskState) (a b : ArchiveState) → OnOk result (IsOk stint) → (IsTrue b.live ↔ IsOk stint) → Reaches new.reach b → (tells → CacheStands old a → OnOk stint (CacheStands new b))
     → OnOk result (IsLeft tells old new a b)
 worked_left tells (Ok stint) (Ok done) old new a b made live reaches cached = record { ready = (live.1 made, reaches); cached = cached }
-worked_left tells (Err failed) (Ok done) old new a b made live reaches cached = absurd cc
+worked_left tells (Err failed) (Ok done) old new a b made live reaches cached = absurd (false≢true made)
 worked_left tells stint (Err halt) old new a b made live reaches cached = tt
 
 -- what is so of each one that was made is so where it was told
 pub on_made : (stint : Result Stint Failed) (result : Result (Unit {0}) Halt) (P : Type 0) → OnOk result (IsOk stint) → OnOk stint P → OnOk result P
 on_made (Ok stint) (Ok done) P made on = on
-on_made (Err failed) (Ok done) P made on = absurd cc
+on_made (Err failed) (Ok done) P made on = absurd (false≢true made)
 on_made stint (Err halt) P made on = tt
 
 -- and of each that failed
 pub on_failed : (stint : Result Stint Failed) (P : Type 0) → IsErr stint → OnErr stint P → P
-on_failed (Ok stint) P failed on = absurd cc
+on_failed (Ok stint) P failed on = absurd (false≢true failed)
 on_failed (Err error) P failed on = on
 
 -- a plan that is begun, or isn't: the archive is live, and reaches as far
