@@ -11,6 +11,7 @@ use Rattle.base_types.specs.declared.time.Time.{Time}
 use Rattle.base_commands.specs.declared.command.Command.TheVariants as commands
 use Rattle.base_commands.specs.declared.command.Item.{Item}
 use Rattle.base_commands.specs.declared.command.Item.TheVariants as items
+use Rattle.base_commands.specs.declared.text.Text.{Text}
 use Rattle.base_commands.specs.declared.text.Text.TheVariants as texts
 use Rattle.journal_entries.specs.Acts.{most_text}
 use Rattle.model_archive.specs.declared.refusal.Refusal.{Refusal}
@@ -120,10 +121,11 @@ pub refused_by : (s : Store) (item : Item) (why : Refusal) (result : Result (Uni
 refused_by s item why result d archive page step in_step goes_on written = record { came = rw goes_on (Refused why, s, step, keeps_leads s s d d (keeps_nowhere d archive s in_step), in_step, written) }
 
 -- an arrival whose text was too long to be held
-pub too_long_by : (s : Store) (doc : DocId) (at : Time) (bytes : ℕ) (result : Result (Unit {0}) Halt) (d : DiskState) (archive : ArchiveState) (page : List ℕ)
-    → AreInStepBy d archive s → result ≡ Ok tt → page ≡ reply_text (Refused (refusals.TooLong most_text)) → IsAnswered s (StoreStep s (items.Command (commands.Arrive doc at (texts.TooLong bytes)))) (Spoils s (items.Command (commands.Arrive doc at (texts.TooLong bytes)))) result d d archive page
-too_long_by s doc at bytes result d archive page in_step goes_on written =
-    refused_by s (items.Command (commands.Arrive doc at (texts.TooLong bytes))) (refusals.TooLong most_text) result d archive page ((refl, refl), refl, stocks_none s in_step.live) in_step goes_on written
+pub too_long_by : (s : Store) (doc : DocId) (at : Time) (text : Text) (bytes : ℕ) (result : Result (Unit {0}) Halt) (d : DiskState) (archive : ArchiveState) (page : List ℕ)
+    → text ≡ texts.TooLong bytes → AreInStepBy d archive s → result ≡ Ok tt → page ≡ reply_text (Refused (refusals.TooLong most_text)) → IsAnswered s (StoreStep s (items.Command (commands.Arrive doc at text))) (Spoils s (items.Command (commands.Arrive doc at text))) result d d archive page
+too_long_by s doc at text bytes result d archive page is in_step goes_on written =
+    let A : Text → Type 0 = λ t. IsAnswered s (StoreStep s (items.Command (commands.Arrive doc at t))) (Spoils s (items.Command (commands.Arrive doc at t))) result d d archive page in
+    subst A (sym is) (refused_by s (items.Command (commands.Arrive doc at (texts.TooLong bytes))) (refusals.TooLong most_text) result d archive page ((refl, refl), refl, stocks_none s in_step.live) in_step goes_on written)
 
 -- ---- pushes
 

@@ -1,5 +1,6 @@
 -- An item with the stint behind it.
 use Rattle.std.proofs.Common.{◌≡◌, ◌⊎◌, ℕ, ◌<◌, Bool, true, false, List, [], ◌∷◌, ◌++◌, length, Option, Some, None, Result, Ok, Err, is_some, refl, inl, inr, ap, sym, subst, ◌∙◌, arith, append_assoc}
+use Rattle.std.proofs.lemmas.Bool.{false≢true}
 use Rattle.std.proofs.lemmas.List.{append-nil}
 use Rattle.machine_model.specs.States.{DiskState, moment}
 use Rattle.machine_model.proofs.MomentLemmas.{allowed_left}
@@ -157,7 +158,7 @@ stopped_stint s item stop before between after old mid new a b working beside (s
       shown_is = shown ∙ told ∙ ap (λ (l : List ℕ). before ++ l) (sym (append-nil (shown_by reply_text (o ∷ []))));
       front = ([], refl);
       short = refl;
-      carried = carried_joins [] new is.carried (rw told at (nothing_came o.next between mid new beside keeps));
+      carried = carried_joins [] new is.carried (subst (λ (b : List ℕ). Carried reply_text StandsBy o.next [] b mid new) told (nothing_came o.next between mid new beside keeps));
       undone = λ is. elim is [ inl memory ↦ absurd cc | inr damage ↦ (let other : stops.Disk ≡ stops.Damaged damage.0 = damage.1 in absurd cc) ];
       steady = λ fine. absurd (fine refl);
       unfinished = inr (inr goes);
@@ -176,7 +177,7 @@ stopped_stint s item stop before between after old mid new a b working beside (s
       shown_is = i.shown_is ∙ ap (λ (l : List ℕ). l ++ said) told ∙ append_assoc before (shown_by reply_text (o ∷ [])) said;
       front = (i.front.0, append-nil (reply_text i.outcome.reply) ∙ i.front.1);
       short = short;
-      carried = carried_joins (i.outcome ∷ []) new is.carried (rw told at i.carried);
+      carried = carried_joins (i.outcome ∷ []) new is.carried (subst (λ (b : List ℕ). Carried reply_text StandsBy o.next (i.outcome ∷ []) b mid new) told i.carried);
       undone = λ is. absurd (done is);
       steady = each;
       unfinished = inr (inl (omega (arith, short, ap length (append-nil (reply_text i.outcome.reply)))));
@@ -188,7 +189,7 @@ stopped_stint s item stop before between after old mid new a b working beside (s
     go stops.Disk fed (inr (said, i, short)) = cut stops.Disk (λ is. elim is [ inl memory ↦ cc | inr damage ↦ (let other : stops.Disk ≡ stops.Damaged damage.0 = damage.1 in cc) ]) said i short (λ fine. absurd (fine refl))
     go stops.Sink fed ((said, i, short), each) = cut stops.Sink (λ is. elim is [ inl memory ↦ cc | inr damage ↦ (let other : stops.Sink ≡ stops.Damaged damage.0 = damage.1 in cc) ]) said i short (λ fine. each)
     go stops.Memory fed out = absurd (fed refl)
-    go (stops.Damaged damage) fed (undone, never) = absurd never
+    go (stops.Damaged damage) fed (none, never) = absurd never
 
 -- what came of the item, by how the stint behind it ended
 pub on_work : (s : Store) (item : Item) (result : Result (Unit {0}) Stop) (before between after : List ℕ) (old mid new : DiskState) (a b : ArchiveState) → is_at_work s ≡ true → mid.now.beside ≡ between → (one : CarriesOut s (StoreStep s item) (Spoils s item) (Ok tt) before between old mid a)
@@ -197,8 +198,8 @@ on_work s item (Ok done) before between after old mid new a b working beside one
 on_work s item (Err stop) before between after old mid new a b working beside one fed out = stopped_stint s item stop before between after old mid new a b working beside one (λ is. fed (ap Err is)) out
 
 -- an item ends no work
-pub still_works : (s : Store) (item : Item) (before after : List ℕ) (old new : DiskState) (a : ArchiveState) → is_at_work s ≡ true → (one : CarriesOut s (StoreStep s item) (Spoils s item) (Ok tt) before after old new a) → is_at_work one.1.outcome.next ≡ true
-still_works s item before after old new a working (shown, is, whole, in_step) = works_on_by s item is.outcome.reply is.outcome.next is.step working
+pub on_ended : (s : Store) (item : Item) (before after : List ℕ) (old new : DiskState) (a : ArchiveState) → is_at_work s ≡ true → (one : CarriesOut s (StoreStep s item) (Spoils s item) (Ok tt) before after old new a) → is_at_work one.1.outcome.next ≡ false → CarriesOn s item (Ok tt) before after old new a
+on_ended s item before after old new a working (shown, is, whole, in_step) ended = absurd (false≢true (sym ended ∙ works_on_by s item is.outcome.reply is.outcome.next is.step working))
 
 -- ---- by the disk alone
 
@@ -227,5 +228,5 @@ pub passes_work : (s : Store) (item : Item) (result : Result (Unit {0}) Stop) (d
 passes_work s item (Ok done) d e a b working one then = passes_stint s item d e a b working one then
 passes_work s item (Err stop) d e a b working one then = passes_never s one.1 item stop e b then
 
-pub passes_still : (s : Store) (item : Item) (d : DiskState) (a : ArchiveState) → is_at_work s ≡ true → (one : Passes s (StoreStep s item) (Spoils s item) (Ok tt) d a) → is_at_work one.1 ≡ true
-passes_still s item d a working (reply, next, step, in_step) = works_on_by s item reply next step working
+pub passes_ended : (s : Store) (item : Item) (d : DiskState) (a : ArchiveState) → is_at_work s ≡ true → (one : Passes s (StoreStep s item) (Spoils s item) (Ok tt) d a) → is_at_work one.1 ≡ false → PassesOn s item (Ok tt) d a
+passes_ended s item d a working (reply, next, step, in_step) ended = absurd (false≢true (sym ended ∙ works_on_by s item reply next step working))

@@ -28,8 +28,8 @@ returns-in-Approx-clause-outcome g c = λ tells s in_step. rw (c.in-Command.is, 
 pub returns-in-Rough-clause-outcome : goal.returns-in-Rough-clause-outcome
 returns-in-Rough-clause-outcome g c = λ tells s in_step. rw (c.in-Command.is, c.in-Rough.is) (answers_by s _ _ _ _ _ _ _ (c.rough-result.ensures.by_reads tells s in_step) c.write_answer-in-Rough.ensures.writes)
 
-pub returns-clause-outcome : goal.returns-clause-outcome
-returns-clause-outcome g c = λ tells s in_step. rw (c.in-Command.is, c.in-Share.is) (answers_by s _ _ _ _ _ _ _ (c.share-result.ensures.by_reads _ s in_step) c.write_shared.ensures.writes)
+pub returns-in-Share-clause-outcome : goal.returns-in-Share-clause-outcome
+returns-in-Share-clause-outcome g c = λ tells s in_step. rw (c.in-Command.is, c.in-Share.is) (answers_by s _ _ _ _ _ _ _ (c.share-result.ensures.by_reads _ s in_step) c.write_shared.ensures.writes)
 
 pub returns-in_default-clause-outcome : goal.returns-in_default-clause-outcome
 returns-in_default-clause-outcome g c = λ tells s in_step. rw c.in_default.is (refused_by s items.Line refusals.Line _ _ _ _ (refl, refl) in_step c.refuse.ensures.goes_on c.refuse.ensures.reply)

@@ -1,8 +1,6 @@
-use Rattle.std.proofs.Common.{◌≡◌, [], false, sym, ◌∙◌, arith}
-use Rattle.std.proofs.lemmas.Bool.{false≢true}
-use Rattle.archive_hand.specs.Stored.{is_at_work}
+use Rattle.std.proofs.Common.{[], ◌∙◌, arith}
 use Rattle.run_script.proofs.PullLemmas.{on_left}
-use Rattle.run_script.proofs.StintLemmas.{on_idle, on_work, passes_idle, passes_still, passes_stopped, passes_work, still_works, stopped_item, works_by}
+use Rattle.run_script.proofs.StintLemmas.{on_ended, on_idle, on_work, passes_ended, passes_idle, passes_stopped, passes_work, stopped_item, works_by}
 use Rattle.run_script.proofs.carry_out.carry_on.Goals as goal
 
 -- the run was stopped at the item
@@ -59,13 +57,11 @@ returns-then-is_at_work-clause-passes g c = λ disk_tells s in_step.
 pub returns-clause-outcome : goal.returns-clause-outcome
 returns-clause-outcome g c = λ disk_tells sink_tells s in_step.
     let one = c.in-Ok.ensures.outcome disk_tells sink_tells s in_step in
-    let goes = still_works s c.args.item _ _ _ _ c.carry_out.new.archive (works_by _ _ _ c.args.archive.now s in_step c.is_at_work-working.ensures c.if-not-working.false) one in
-    let ended : is_at_work one.1.outcome.next ≡ false = works_by _ _ _ c.carry_out.new.archive one.1.outcome.next one.3 c.is_at_work.ensures c.if-is_at_work.false in
-    absurd (false≢true (sym ended ∙ goes))
+    on_ended s c.args.item _ _ _ _ c.carry_out.new.archive (works_by _ _ _ c.args.archive.now s in_step c.is_at_work-working.ensures c.if-not-working.false) one
+    (works_by _ _ _ c.carry_out.new.archive one.1.outcome.next one.3 c.is_at_work.ensures c.if-is_at_work.false)
 
 pub returns-clause-passes : goal.returns-clause-passes
 returns-clause-passes g c = λ disk_tells s in_step.
     let one = c.in-Ok.ensures.passes disk_tells s in_step in
-    let goes = passes_still s c.args.item _ c.carry_out.new.archive (works_by _ _ _ c.args.archive.now s in_step c.is_at_work-working.ensures c.if-not-working.false) one in
-    let ended : is_at_work one.1 ≡ false = works_by _ _ _ c.carry_out.new.archive one.1 one.3 c.is_at_work.ensures c.if-is_at_work.false in
-    absurd (false≢true (sym ended ∙ goes))
+    passes_ended s c.args.item _ c.carry_out.new.archive (works_by _ _ _ c.args.archive.now s in_step c.is_at_work-working.ensures c.if-not-working.false) one
+    (works_by _ _ _ c.carry_out.new.archive one.1 one.3 c.is_at_work.ensures c.if-is_at_work.false)
