@@ -81,9 +81,9 @@ not_early status (inr (inl is)) all = subst CarriesOutAll is all
 not_early status (inr (inr (inl is))) all = subst CarriesOutAll is all
 not_early status (inr (inr (inr (damage, is)))) all = subst CarriesOutAll is all
 
--- nor where the input is gone over
-pub early_goes_on : (status : Status) → EndsEarly status → ◌≡◌ {A = Result (Unit {0}) Status} (Err status) (Err Done) → ⊥
-early_goes_on status early is = (let done : status ≡ Done = cc in not_early status early (subst CarriesOutAll (sym done) tt))
+-- nor the one at the end of the input
+pub early_undone : (status : Status) → EndsEarly status → status ≡ Done → ⊥
+early_undone status early is = not_early status early (subst CarriesOutAll (sym is) tt)
 
 -- a run that is stopped ends early
 pub stops_early : (status : Status) (stop : Stop) → status ≡ status_of_stop stop → EndsEarly status

@@ -1,6 +1,6 @@
 -- A whole run: the load, the items one after another, and how the run ends.
 use Rattle.std.proofs.Common.{◌≡◌, ◌⊎◌, ℕ, zero, suc, ◌<◌, ◌≤◌, Bool, true, false, List, [], ◌∷◌, ◌++◌, length, take, All, Option, None, Ok, Err, refl, inl, inr, ap, subst, sym, ◌∙◌, arith, append_assoc}
-use Rattle.std.proofs.lemmas.Bool.{cases_lt}
+use Rattle.std.proofs.lemmas.Bool.{cases_lt, false≢true}
 use Rattle.std.proofs.lemmas.List.{append-nil, append_cancel_left, length-append}
 use Rattle.std.proofs.lemmas.List.Elements.{All-append, All-map, All-nil, All-weaker}
 use Rattle.machine_model.specs.Areas.{Bytes}
@@ -42,7 +42,7 @@ use Rattle.archive_hand.proofs.ByReadsLemmas.{both_same, keeps_nowhere, same_as,
 use Rattle.archive_entries.specs.declared.error.LoadError.{LoadError}
 use Rattle.archive_entries.specs.declared.error.LoadError.TheVariants as loads
 use Rattle.pages_sublists.specs.declared.why.Damage.{Damage}
-use Rattle.run_script.specs.Headline.{CarriesOutAll, ComesAfterReplies, Ends, EndsEarly, Headline, InputAt, IsLoadedFrom, LoadsAs, Ran, ReadingRun, store_of}
+use Rattle.run_script.specs.Headline.{ComesAfterReplies, Ends, EndsEarly, Headline, InputAt, IsLoadedFrom, LoadsAs, Ran, ReadingRun, store_of}
 use Rattle.run_script.specs.Outcomes.{CameOf, CarriesOn, CarriesOut, IsShort, IsShown, IsStopped, NeverSpoiled}
 use Rattle.run_script.specs.Serving.{AreAwaited, Closing, ComesAfter, Gives, HasGoneOver, IsStoreRun, IsUndoneAt, Serving, Serves, pulls_beside}
 use Rattle.run_script.specs.Statuses.{status_of_load, status_of_stop}
@@ -52,7 +52,7 @@ use Rattle.run_script.specs.declared.status.Status.{Status}
 use Rattle.run_script.specs.declared.status.Status.TheVariants.{Done, NotArchive, Damaged, Disk, Memory, Sink}
 use Rattle.run_script.proofs.OutcomeLemmas.{some_bytes, speaks_bytes}
 use Rattle.run_script.proofs.StintLemmas.{each_kept, nothing_came}
-use Rattle.run_script.proofs.PullLemmas.{EndsBehind, early_behind, ends_by, ends_else, input_early, not_early, not_pulled, pulling_first, pulling_next, stopped_at, stops_early}
+use Rattle.run_script.proofs.PullLemmas.{EndsBehind, early_behind, early_undone, ends_by, ends_else, input_early, not_early, not_pulled, pulling_first, pulling_next, stopped_at, stops_early}
 
 -- ---- the end of a run
 
@@ -384,7 +384,7 @@ stopped store old now sink disk archive archive_new held held_now before item st
             run = elim r.run [ inl whole ↦ inl whole | inr lacks ↦ inr (lacks.0, refl, lacks.1) ];
             closes = tt;
             at_end = inl refl;
-            closed = λ done. absurd (not_early st early (subst CarriesOutAll (sym done) tt));
+            closed = λ done. absurd (early_undone st early done);
             shown = earlier ++ told;
             shown_is = out.shown_is ∙ ap (λ (l : List ℕ). l ++ told) serving.shown ∙ append_assoc old.sink.shown earlier told;
             front = (out.front.0, all_texts);
@@ -427,7 +427,7 @@ stopped store old now sink disk archive archive_new held held_now before item st
         undone_stop stops.Sink is = absurd is
 
 pub gone_over_early : (store : Store) (old new : MachineState) (archive : ArchiveState) (pulls : List Pull) (status : Status) → EndsEarly status → Serves store status old new pulls → HasGoneOver store status old new archive pulls
-gone_over_early store old new archive pulls status early serves = record { closing = λ done. absurd (not_early status early (rw done tt)); serves = λ going. serves }
+gone_over_early store old new archive pulls status early serves = record { closing = λ done. absurd (early_undone status early done); serves = λ going. serves }
 
 -- ---- behind the last item
 
@@ -544,7 +544,7 @@ closing_stopped store old now new archive archive_new pulls status stop c same i
             run = inl c.run;
             closes = stints;
             at_end = inr (refl, refl, refl);
-            closed = λ done. absurd (not_early st early (rw done tt));
+            closed = λ done. absurd (early_undone st early done);
             shown = earlier ++ part;
             shown_is = shown ∙ ap (λ (l : List ℕ). l ++ part) c.shown ∙ append_assoc old.sink.shown earlier part;
             front = (front.0, texts);
@@ -670,7 +670,7 @@ not_begun step stint working stands state status old new early alone keeps = rec
     pulled = [];
     pulled_are = ap (λ (s : SourceState). s.left) (sym alone.0);
     ended = false;
-    ended_is = λ is. cc;
+    ended_is = λ is. absurd (false≢true is);
     reached = [];
     behind = [];
     rest = [];
@@ -683,7 +683,7 @@ not_begun step stint working stands state status old new early alone keeps = rec
     run = inl refl;
     closes = tt;
     at_end = inl refl;
-    closed = λ done. absurd (not_early status early (rw done tt));
+    closed = λ done. absurd (early_undone status early done);
     shown = [];
     shown_is = ap (λ (s : SinkState). s.shown) alone.1 ∙ sym (append-nil old.sink.shown);
     front = ([], refl);
