@@ -1,5 +1,6 @@
 -- An item answered and its reply shown: what a call of the archive did, what is written of it, and what is shown of that.
-use Rattle.std.proofs.Common.{◌≡◌, ℕ, ◌+◌, ◌<◌, ◌≤◌, List, [], ◌++◌, length, All, None, Result, Ok, Err, refl, inl, inr, ap, subst, sym, ◌∙◌, arith, append_assoc}
+use Rattle.std.proofs.Common.{◌≡◌, ◌↔◌, ℕ, ◌+◌, ◌<◌, ◌≤◌, List, [], ◌++◌, length, All, None, Result, Ok, Err, IsErr, IsOk, IsTrue, OnErr, OnOk, refl, inl, inr, ap, subst, sym, ◌∙◌, arith, append_assoc}
+use Rattle.std.proofs.lemmas.Bool.{false≢true}
 use Rattle.std.proofs.lemmas.List.{append-nil, append_cancel_left, length-append}
 use Rattle.machine_model.specs.Areas.{Bytes}
 use Rattle.machine_model.specs.Images.{MayLeave}
@@ -10,6 +11,7 @@ use Rattle.base_types.specs.declared.time.Time.{Time}
 use Rattle.base_commands.specs.declared.command.Command.TheVariants as commands
 use Rattle.base_commands.specs.declared.command.Item.{Item}
 use Rattle.base_commands.specs.declared.command.Item.TheVariants as items
+use Rattle.base_commands.specs.declared.text.Text.{Text}
 use Rattle.base_commands.specs.declared.text.Text.TheVariants as texts
 use Rattle.journal_entries.specs.Acts.{most_text}
 use Rattle.model_archive.specs.declared.refusal.Refusal.{Refusal}
@@ -26,7 +28,7 @@ use Rattle.model_archive.proofs.RunLemmas.{one_outcome}
 use Rattle.journal_gates.specs.InStep.{IsInStep}
 use Rattle.journal_gates.specs.Spelled.{Spells}
 use Rattle.archive_hand.specs.Changing.{KeepsBy, LeadsBy}
-use Rattle.archive_hand.specs.States.{ArchiveState, AreInStepBy}
+use Rattle.archive_hand.specs.States.{ArchiveState, AreInStepBy, CacheStands, Reaches}
 use Rattle.archive_hand.specs.Stored.{Store, HasSame, IsSameStore, Spoils, StandsBy, StoreStep, StoreStint}
 use Rattle.archive_hand.specs.Takes.{Ending, Replied, Starved, Faulted, Spoiled, TakesBy, TakesStint, said}
 use Rattle.archive_hand.specs.declared.job.Stint.{Stint}
@@ -34,7 +36,8 @@ use Rattle.archive_hand.proofs.StandingLemmas.{store_speaks}
 use Rattle.machine_model.specs.declared.area.Failed.{Failed}
 use Rattle.pages_sublists.specs.declared.why.Damage.{Damage}
 use Rattle.archive_hand.proofs.ByReadsLemmas.{keeps_leads, keeps_nowhere, stands_by, stocks_none}
-use Rattle.run_script.specs.Outcomes.{AnswersTo, CarriesOut, IsAnswered, IsShown, NeverSpoiled, Passes, Writes, WritesStint}
+use Rattle.run_script.specs.Causes.{IsLeft}
+use Rattle.run_script.specs.Outcomes.{AnswersTo, CanGoOn, CarriesOut, IsAnswered, IsShown, NeverSpoiled, Passes, Writes, WritesStint}
 use Rattle.run_script.specs.Statuses.{stop_of_halt}
 use Rattle.run_script.specs.declared.stop.Halt.{Halt}
 use Rattle.run_script.specs.declared.stop.Halt.TheVariants as halts
@@ -55,7 +58,7 @@ leads_back s next old new same leads = record {
 }
 
 -- what is said has bytes
-speaks_bytes : (r : Reply) → Speaks r → 1 ≤ length (reply_text r)
+pub speaks_bytes : (r : Reply) → Speaks r → 1 ≤ length (reply_text r)
 speaks_bytes (Accepted n) speaks = omega arith
 speaks_bytes (Version None) speaks = omega arith
 speaks_bytes Silent speaks = absurd speaks
@@ -89,16 +92,40 @@ worked_by s (Ok stint) halted old new archive page (next, step, leads, in_step) 
 worked_by s (Err failed) halted old new archive page (inl keeps) is = record { came = rw is (inl keeps) }
 worked_by s (Err failed) halted old new archive page (inr (told, next, step, leads)) is = record { came = rw is (inr (Finished told, next, step, speaks_bytes (Finished told) tt, leads)) }
 
+-- what a stint leaves where it was made
+pub worked_left : (tells : Type 0) (stint : Result Stint Failed) (result : Result (Unit {0}) Halt) (old new : DiskState) (a b : ArchiveState) → OnOk result (IsOk stint) → (IsTrue b.live ↔ IsOk stint) → Reaches new.reach b → (tells → CacheStands old a → OnOk stint (CacheStands new b))
+    → OnOk result (IsLeft tells old new a b)
+worked_left tells (Ok stint) (Ok done) old new a b made live reaches cached = record { ready = (live.1 made, reaches); cached = cached }
+worked_left tells (Err failed) (Ok done) old new a b made live reaches cached = absurd (false≢true made)
+worked_left tells stint (Err halt) old new a b made live reaches cached = tt
+
+-- what is so of each one that was made is so where it was told
+pub on_made : (stint : Result Stint Failed) (result : Result (Unit {0}) Halt) (P : Type 0) → OnOk result (IsOk stint) → OnOk stint P → OnOk result P
+on_made (Ok stint) (Ok done) P made on = on
+on_made (Err failed) (Ok done) P made on = absurd (false≢true made)
+on_made stint (Err halt) P made on = tt
+
+-- and of each that failed
+pub on_failed : (stint : Result Stint Failed) (P : Type 0) → IsErr stint → OnErr stint P → P
+on_failed (Ok stint) P failed on = absurd (false≢true failed)
+on_failed (Err error) P failed on = on
+
+-- a plan that is begun, or isn't: the archive is live, and reaches as far
+pub begun_left : (tells : Type 0) (result : Result (Unit {0}) Halt) (d : DiskState) (a b : ArchiveState) → CanGoOn a d.reach → b.live ≡ a.live → (Reaches d.reach a → Reaches d.reach b) → (CacheStands d a → CacheStands d b) → OnOk result (IsLeft tells d d a b)
+begun_left tells (Ok done) d a b ready live reaches cached = record { ready = (subst IsTrue (sym live) ready.0, reaches ready.1); cached = λ told stands. cached stands }
+begun_left tells (Err halt) d a b ready live reaches cached = tt
+
 -- an item that is refused without a call
 pub refused_by : (s : Store) (item : Item) (why : Refusal) (result : Result (Unit {0}) Halt) (d : DiskState) (archive : ArchiveState) (page : List ℕ)
     → StoreStep s item (Refused why) s → AreInStepBy d archive s → result ≡ Ok tt → page ≡ reply_text (Refused why) → IsAnswered s (StoreStep s item) (Spoils s item) result d d archive page
 refused_by s item why result d archive page step in_step goes_on written = record { came = rw goes_on (Refused why, s, step, keeps_leads s s d d (keeps_nowhere d archive s in_step), in_step, written) }
 
 -- an arrival whose text was too long to be held
-pub too_long_by : (s : Store) (doc : DocId) (at : Time) (bytes : ℕ) (result : Result (Unit {0}) Halt) (d : DiskState) (archive : ArchiveState) (page : List ℕ)
-    → AreInStepBy d archive s → result ≡ Ok tt → page ≡ reply_text (Refused (refusals.TooLong most_text)) → IsAnswered s (StoreStep s (items.Command (commands.Arrive doc at (texts.TooLong bytes)))) (Spoils s (items.Command (commands.Arrive doc at (texts.TooLong bytes)))) result d d archive page
-too_long_by s doc at bytes result d archive page in_step goes_on written =
-    refused_by s (items.Command (commands.Arrive doc at (texts.TooLong bytes))) (refusals.TooLong most_text) result d archive page ((refl, refl), refl, stocks_none s in_step.live) in_step goes_on written
+pub too_long_by : (s : Store) (doc : DocId) (at : Time) (text : Text) (bytes : ℕ) (result : Result (Unit {0}) Halt) (d : DiskState) (archive : ArchiveState) (page : List ℕ)
+    → text ≡ texts.TooLong bytes → AreInStepBy d archive s → result ≡ Ok tt → page ≡ reply_text (Refused (refusals.TooLong most_text)) → IsAnswered s (StoreStep s (items.Command (commands.Arrive doc at text))) (Spoils s (items.Command (commands.Arrive doc at text))) result d d archive page
+too_long_by s doc at text bytes result d archive page is in_step goes_on written =
+    let A : Text → Type 0 = λ t. IsAnswered s (StoreStep s (items.Command (commands.Arrive doc at t))) (Spoils s (items.Command (commands.Arrive doc at t))) result d d archive page in
+    subst A (sym is) (refused_by s (items.Command (commands.Arrive doc at (texts.TooLong bytes))) (refusals.TooLong most_text) result d archive page ((refl, refl), refl, stocks_none s in_step.live) in_step goes_on written)
 
 -- ---- pushes
 

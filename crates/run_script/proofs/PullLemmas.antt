@@ -1,6 +1,7 @@
 -- What a run pulls, call by call of the reader, where the input was at its end, and with which statuses it may come there.
-use Rattle.std.proofs.Common.{◌≡◌, ◌⊎◌, ℕ, ◌<◌, ◌≤◌, ◌^◌, Bool, true, false, List, [], ◌∷◌, ◌++◌, length, Option, Some, None, Result, Ok, Err, IfErr, refl, inl, inr, ap, subst, sym, ◌∙◌, arith, append_assoc}
+use Rattle.std.proofs.Common.{◌≡◌, ◌⊎◌, ℕ, ◌<◌, ◌≤◌, ◌^◌, Bool, true, false, List, [], ◌∷◌, ◌++◌, length, Option, Some, None, Result, Ok, Err, IfErr, OnOk, refl, inl, inr, ap, subst, sym, ◌∙◌, arith, append_assoc}
 use Rattle.std.proofs.lemmas.List.{append-nil, length-append}
+use Rattle.machine_model.specs.Causes.{Rose}
 use Rattle.machine_model.specs.Pushes.{IsSameBeside}
 use Rattle.machine_model.specs.States.{SourceState, SinkState, DiskState, MachineState}
 use Rattle.base_commands.specs.declared.command.Item.{Item}
@@ -79,6 +80,10 @@ not_early status (inl is) all = subst CarriesOutAll is all
 not_early status (inr (inl is)) all = subst CarriesOutAll is all
 not_early status (inr (inr (inl is))) all = subst CarriesOutAll is all
 not_early status (inr (inr (inr (damage, is)))) all = subst CarriesOutAll is all
+
+-- nor the one at the end of the input
+pub early_undone : (status : Status) → EndsEarly status → status ≡ Done → ⊥
+early_undone status early is = not_early status early (subst CarriesOutAll (sym is) tt)
 
 -- a run that is stopped ends early
 pub stops_early : (status : Status) (stop : Stop) → status ≡ status_of_stop stop → EndsEarly status
@@ -169,6 +174,11 @@ ends_by old now source held held_now status pulling gives =
     let I : Result Item Status → Type 0 = λ next. IfErr next (λ s. EndsHere s old source pulling.items) in
     subst I (sym gives.next_is) (ends_here old source held_now (pulling_still old now source held held_now status pulling gives) gives.answer gives.says.finds)
 
+-- behind the end of the input it is where it was, however the stints there end
+pub ends_closed : (status : Status) (old new : SourceState) → EndsEarly status ⊎ (status ≡ Done) → Ends Done old new → Ends status old new
+ends_closed status old new (inl early) e = record { pulled = e.pulled; pulled_are = e.pulled_are; ended = e.ended; ended_is = e.ended_is; rest = e.rest; input_at = input_early status e.ended e.pulled e.rest early }
+ends_closed status old new (inr is) e = subst (λ (st : Status). Ends st old new) (sym is) e
+
 -- so no other status ends it
 pub ends_else : (status other : Status) → CarriesOutAll status ⊎ (status ≡ Memory) → (CarriesOutAll other → ⊥) → (Memory ≡ other → ⊥) → status ≡ other → ⊥
 ends_else status other (inl all) early late is = early (subst CarriesOutAll is all)
@@ -207,6 +217,10 @@ later_joins old mid new one other = record { source = omega (arith, one.source, 
 pub later_alone : (old new : MachineState) → new.source ≡ old.source → new.sink ≡ old.sink → old.disk.faults ≤ new.disk.faults → IsLater old new
 later_alone old new source sink disk = record { source = omega (arith, ap (λ (s : SourceState). s.faults) source); sink = omega (arith, ap (λ (s : SinkState). s.faults) sink); disk = disk }
 
+-- calls that leave the source as it was
+pub later_still : (old new : MachineState) → new.source ≡ old.source → old.sink.faults ≤ new.sink.faults → old.disk.faults ≤ new.disk.faults → IsLater old new
+later_still old new source sink disk = record { source = omega (arith, ap (λ (s : SourceState). s.faults) source); sink = sink; disk = disk }
+
 -- what ended so since a moment ended so since any earlier one
 pub ends_later : (status : Status) (old mid new : MachineState) → IsLater old mid → MayEnd status mid new → MayEnd status old new
 ends_later status old mid new later ends = record {
@@ -218,11 +232,25 @@ ends_later status old mid new later ends = record {
   not_full = ends.not_full;
 }
 
+-- what stopped a run ended it
+pub stop_ends : (status : Status) (stop : Stop) (old new : MachineState) → status ≡ status_of_stop stop → (stop ≡ stops.Disk → Rose old.disk.faults new.disk.faults) → (stop ≡ stops.Sink → Rose old.sink.faults new.sink.faults) → MayEnd status old new
+stop_ends status stop old new is disk sink = subst (λ (st : Status). MayEnd st old new) (sym is) (go stop disk sink)
+  where
+    go : (s : Stop) → (s ≡ stops.Disk → Rose old.disk.faults new.disk.faults) → (s ≡ stops.Sink → Rose old.sink.faults new.sink.faults) → MayEnd (status_of_stop s) old new
+    go stops.Disk disk sink = record { source = λ is. absurd cc; sink = λ is. absurd cc; disk = λ is. disk refl; no_usage = λ is. cc; no_load = λ at is. cc; not_full = λ n is. cc }
+    go stops.Sink disk sink = record { source = λ is. absurd cc; sink = λ is. sink refl; disk = λ is. absurd cc; no_usage = λ is. cc; no_load = λ at is. cc; not_full = λ n is. cc }
+    go stops.Memory disk sink = record { source = λ is. absurd cc; sink = λ is. absurd cc; disk = λ is. absurd cc; no_usage = λ is. cc; no_load = λ at is. cc; not_full = λ n is. cc }
+    go (stops.Damaged damage) disk sink = record { source = λ is. absurd cc; sink = λ is. absurd cc; disk = λ is. absurd cc; no_usage = λ is. cc; no_load = λ at is. cc; not_full = λ n is. cc }
+
 pub left_joins : (tells : Type 0) (old mid new : DiskState) (first then now : ArchiveState) → IsLeft tells old mid first then → IsLeft tells mid new then now → IsLeft tells old new first now
 left_joins tells old mid new first then now one other = record {
   ready = other.ready;
   cached = λ told stands. other.cached told (one.cached told stands);
 }
+
+pub on_left : (tells : Type 0) (result : Result (Unit {0}) Stop) (old mid new : DiskState) (first then now : ArchiveState) → IsLeft tells old mid first then → OnOk result (IsLeft tells mid new then now) → OnOk result (IsLeft tells old new first now)
+on_left tells (Ok done) old mid new first then now one other = left_joins tells old mid new first then now one other
+on_left tells (Err stop) old mid new first then now one other = tt
 
 -- and over pushes
 pub left_beside : (tells : Type 0) (old mid new : DiskState) (archive archive_now : ArchiveState) → IsSameBeside mid new → IsLeft tells old mid archive archive_now → IsLeft tells old new archive archive_now
@@ -274,7 +302,7 @@ spoils_one tells s item status stop d archive source source_now held held_now is
     record {
       before = [];
       outcomes = [];
-      run = tt;
+      run = refl;
       item = item;
       spoiled = spoils;
       pages_are = pages;

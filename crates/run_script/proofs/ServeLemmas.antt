@@ -1,6 +1,6 @@
 -- A whole run: the load, the items one after another, and how the run ends.
 use Rattle.std.proofs.Common.{◌≡◌, ◌⊎◌, ℕ, zero, suc, ◌<◌, ◌≤◌, Bool, true, false, List, [], ◌∷◌, ◌++◌, length, take, All, Option, None, Ok, Err, refl, inl, inr, ap, subst, sym, ◌∙◌, arith, append_assoc}
-use Rattle.std.proofs.lemmas.Bool.{cases_lt}
+use Rattle.std.proofs.lemmas.Bool.{cases_lt, false≢true}
 use Rattle.std.proofs.lemmas.List.{append-nil, append_cancel_left, length-append}
 use Rattle.std.proofs.lemmas.List.Elements.{All-append, All-map, All-nil, All-weaker}
 use Rattle.machine_model.specs.Areas.{Bytes}
@@ -8,8 +8,8 @@ use Rattle.machine_model.specs.Calls.{Syncs}
 use Rattle.machine_model.specs.Images.{Leaves, MayLeave}
 use Rattle.machine_model.specs.Pulls.{Pull}
 use Rattle.machine_model.specs.Pushes.{IsPrefix}
-use Rattle.machine_model.specs.States.{SourceState, SinkState, DiskState, MachineState, moment}
-use Rattle.machine_model.proofs.MomentLemmas.{allowed_left, goes_on_same, left_now}
+use Rattle.machine_model.specs.States.{SourceState, SinkState, DiskState, MachineState}
+use Rattle.machine_model.proofs.MomentLemmas.{goes_on_same, left_now}
 use Rattle.base_commands.specs.declared.command.Item.{Item}
 use Rattle.pages_area.specs.Caches.{Kept}
 use Rattle.pages_area.specs.Live.{AreLive}
@@ -23,7 +23,7 @@ use Rattle.model_archive.specs.Histories.{History}
 use Rattle.model_archive.specs.Holding.{HoldsPlan}
 use Rattle.model_archive.specs.Plans.{live_extents}
 use Rattle.model_archive.specs.Replies.{reply_text}
-use Rattle.model_archive.specs.Runs.{Outcome, AreStints, IsAcknowledged, IsRunWith, shown_by, state_after}
+use Rattle.model_archive.specs.Runs.{Outcome, AreStints, IsAcknowledged, shown_by, state_after}
 use Rattle.model_archive.specs.Standing.{AreQuiet, Carried, IsQuiet, LacksStint, last_state}
 use Rattle.model_archive.specs.Stands.{Stands, EachStands, IsNotArchive, bodies_of}
 use Rattle.model_archive.specs.Steps.{Reply, Silent}
@@ -51,7 +51,8 @@ use Rattle.run_script.specs.declared.stop.Stop.TheVariants as stops
 use Rattle.run_script.specs.declared.status.Status.{Status}
 use Rattle.run_script.specs.declared.status.Status.TheVariants.{Done, NotArchive, Damaged, Disk, Memory, Sink}
 use Rattle.run_script.proofs.OutcomeLemmas.{some_bytes, speaks_bytes}
-use Rattle.run_script.proofs.PullLemmas.{EndsBehind, early_behind, ends_by, ends_else, input_early, not_early, not_pulled, pulling_first, pulling_next, stopped_at, stops_early}
+use Rattle.run_script.proofs.StintLemmas.{each_kept, nothing_came}
+use Rattle.run_script.proofs.PullLemmas.{EndsBehind, early_behind, early_undone, ends_by, ends_else, input_early, not_early, not_pulled, pulling_first, pulling_next, stopped_at, stops_early}
 
 -- ---- the end of a run
 
@@ -205,12 +206,10 @@ closing_by store old now archive held pulls source serving e =
     }
 
 -- the same run with pulls that came after its replies
-pulled_more : (store : Store) (old now : MachineState) (archive : ArchiveState) (held : ReaderState) (before pulls : List Pull) (serving : Serving store old now archive held before) → All (ComesAfter store old.source old.sink serving.pulling.items serving.outcomes) pulls
-    → (more : Serving store old now archive held pulls) × (more.pulling ≡ serving.pulling)
-pulled_more store old now archive held before pulls serving all = (
-  record { pulling = serving.pulling; outcomes = serving.outcomes; run = serving.run; shown = serving.shown; carried = serving.carried; in_step = serving.in_step; after_replies = all },
-  refl,
-)
+abbrev pulled_more : (store : Store) (old now : MachineState) (archive : ArchiveState) (held : ReaderState) (before pulls : List Pull) (serving : Serving store old now archive held before) → All (ComesAfter store old.source old.sink serving.pulling.items serving.outcomes) pulls
+    → Serving store old now archive held pulls
+pulled_more store old now archive held before pulls serving all =
+    record { pulling = serving.pulling; outcomes = serving.outcomes; run = serving.run; shown = serving.shown; carried = serving.carried; in_step = serving.in_step; after_replies = all }
 
 -- there is no next item
 pub ended_by : (store : Store) (old now : MachineState) (archive : ArchiveState) (held held_now : ReaderState) (before : List Pull) (status : Status) (source : SourceState) (lefts : List (List ℕ)) (serving : Serving store old now archive held before)
@@ -223,7 +222,7 @@ ended_by store old now archive held held_now before status source lefts serving 
     let pulls = before ++ pulls_beside now.sink.shown lefts in
     let replied = all_pulls store old now archive held before lefts serving awaited in
     record {
-      closing = λ is. closing_by store old now archive held pulls source (pulled_more store old now archive held before pulls serving replied).0 (subst (λ (st : Status). EndsBehind st old.source source serving.pulling.items) is e);
+      closing = λ is. closing_by store old now archive held pulls source (pulled_more store old now archive held before pulls serving replied) (subst (λ (st : Status). EndsBehind st old.source source serving.pulling.items) is e);
       serves = λ going. record {
         ran = record {
           pulled = e.ends.pulled;
@@ -284,24 +283,11 @@ serving_next store old now sink disk archive archive_new held held_now before it
       after_replies = after_longer store old.source old.sink items (item ∷ []) serving.outcomes further (before ++ pulls_beside now.sink.shown lefts) (all_pulls store old now archive held before lefts serving awaited);
     }
 
--- calls that keep what is stored are no event
-no_event : (store : Store) (before : List ℕ) (old new : DiskState) → old.now.beside ≡ before → KeepsBy store old new → Carried {R = Reply} reply_text StandsBy store [] before old new
-no_event store before old new beside keeps = record {
-  goes_on = keeps.goes_on;
-  images = λ image other left. let was = keeps.images image other left in ([], was.1 ∙ beside ∙ sym (append-nil before), (was.0, refl));
-}
-
--- what is kept over calls is so of each image that a stop may leave then
-pub keeps_each : (store : Store) (old new : DiskState) → KeepsBy store old new → EachStandsBy new store
-keeps_each store old new keeps = λ image allowed. (keeps.images image new.now.beside (allowed_left new (moment old) image allowed)).0
-
 -- which items were reached where the run was stopped at one, or in the stint behind it
 record IsReached (store : Store) (status : Status) (items behind : List Item) (item : Item) (outcomes further : List (Outcome Reply Store)) : Type 0 where
   reached : List Item
   left : List Item
   are : reached ++ left ≡ items ++ item ∷ behind
-  front : List Item
-  front_is : reached ≡ items ++ front
   run : IsStoreRun store reached (outcomes ++ further) ⊎ (LacksStint StoreStep StoreStint is_at_work store reached (outcomes ++ further) × ((status ≡ Disk) ⊎ (status ≡ Sink)))
   none : further ≡ [] → left ≡ item ∷ behind
 
@@ -309,10 +295,10 @@ reached_by : (store : Store) (stop : Stop) (items behind : List Item) (item : It
     → IsReached store (status_of_stop stop) items behind item outcomes further
 reached_by store stop items behind item outcomes further run (inl none) =
     let still : IsStoreRun store items (outcomes ++ further) = subst (λ (os : List (Outcome Reply Store)). IsStoreRun store items os) (sym (ap (λ (l : List (Outcome Reply Store)). outcomes ++ l) none ∙ append-nil outcomes)) run in
-    record { reached = items; left = item ∷ behind; are = refl; front = []; front_is = sym (append-nil items); run = inl still; none = λ is. refl }
+    record { reached = items; left = item ∷ behind; are = refl; run = inl still; none = λ is. refl }
 reached_by store stop items behind item outcomes further run (inr (inl one)) =
     let all = works_join StoreStep StoreStint is_at_work store items (item ∷ []) outcomes further run one in
-    record { reached = items ++ item ∷ []; left = behind; are = append_assoc items (item ∷ []) behind; front = item ∷ []; front_is = refl; run = inl all; none = λ is. absurd (some_outcomes (last_state store outcomes) item further one is) }
+    record { reached = items ++ item ∷ []; left = behind; are = append_assoc items (item ∷ []) behind; run = inl all; none = λ is. absurd (some_outcomes (last_state store outcomes) item further one is) }
   where
     some_outcomes : (s : Store) (item : Item) (os : List (Outcome Reply Store)) → IsStoreRun s (item ∷ []) os → os ≡ [] → ⊥
     some_outcomes s item [] run is = run
@@ -321,8 +307,6 @@ reached_by store stop items behind item outcomes further run (inr (inr (outcome,
   reached = items ++ item ∷ [];
   left = behind;
   are = append_assoc items (item ∷ []) behind;
-  front = item ∷ [];
-  front_is = refl;
   run = inr (
     record { before = items; event = item; events_are = refl; done = outcomes; outcome = outcome; outcomes_are = ap (λ (l : List (Outcome Reply Store)). outcomes ++ l) is; run = run; working = working; last = step },
     elim fault [ inl disk ↦ inl (ap status_of_stop disk) | inr sink ↦ inr (ap status_of_stop sink) ],
@@ -400,7 +384,7 @@ stopped store old now sink disk archive archive_new held held_now before item st
             run = elim r.run [ inl whole ↦ inl whole | inr lacks ↦ inr (lacks.0, refl, lacks.1) ];
             closes = tt;
             at_end = inl refl;
-            closed = λ done. absurd (not_early st early (rw done tt));
+            closed = λ done. absurd (early_undone st early done);
             shown = earlier ++ told;
             shown_is = out.shown_is ∙ ap (λ (l : List ℕ). l ++ told) serving.shown ∙ append_assoc old.sink.shown earlier told;
             front = (out.front.0, all_texts);
@@ -443,7 +427,7 @@ stopped store old now sink disk archive archive_new held held_now before item st
         undone_stop stops.Sink is = absurd is
 
 pub gone_over_early : (store : Store) (old new : MachineState) (archive : ArchiveState) (pulls : List Pull) (status : Status) → EndsEarly status → Serves store status old new pulls → HasGoneOver store status old new archive pulls
-gone_over_early store old new archive pulls status early serves = record { closing = λ done. absurd (not_early status early (rw done tt)); serves = λ going. serves }
+gone_over_early store old new archive pulls status early serves = record { closing = λ done. absurd (early_undone status early done); serves = λ going. serves }
 
 -- ---- behind the last item
 
@@ -469,7 +453,7 @@ closing_next store old now new archive archive_new pulls c same (shown, is, whol
       shown = is.shown_is ∙ ap (λ (l : List ℕ). now.sink.shown ++ l) whole ∙ ap (λ (l : List ℕ). l ++ reply_text o.reply) c.shown ∙ append_assoc old.sink.shown (shown_by reply_text so_far) (reply_text o.reply)
           ∙ ap (λ (l : List ℕ). old.sink.shown ++ l) (sym (shown_next so_far o) ∙ ap (shown_by reply_text) joined);
       carried = subst (λ (os : List (Outcome Reply Store)). Carried reply_text StandsBy store os old.sink.shown old.disk new.disk) joined (carried_joins (o ∷ []) new.disk c.carried (rw c.shown at is.carried));
-      in_step = subst (λ (os : List (Outcome Reply Store)). AreInStepBy new.disk archive_new (last_state store os)) joined (rw (last_state_joins store so_far (o ∷ [])) in_step);
+      in_step = subst (λ (os : List (Outcome Reply Store)). AreInStepBy new.disk archive_new (last_state store os)) joined (subst (AreInStepBy new.disk archive_new) (sym (last_state_joins store so_far (o ∷ []))) in_step);
       after_replies = subst (λ (os : List (Outcome Reply Store)). All (ComesAfter store old.source old.sink c.items os) pulls) joined
           (subst (λ (l : List Item). All (ComesAfter store old.source old.sink l (so_far ++ o ∷ [])) pulls) (append-nil c.items) (after_longer store old.source old.sink c.items [] so_far (o ∷ []) pulls c.after_replies));
     }
@@ -560,7 +544,7 @@ closing_stopped store old now new archive archive_new pulls status stop c same i
             run = inl c.run;
             closes = stints;
             at_end = inr (refl, refl, refl);
-            closed = λ done. absurd (not_early st early (rw done tt));
+            closed = λ done. absurd (early_undone st early done);
             shown = earlier ++ part;
             shown_is = shown ∙ ap (λ (l : List ℕ). l ++ part) c.shown ∙ append_assoc old.sink.shown earlier part;
             front = (front.0, texts);
@@ -570,7 +554,7 @@ closing_stopped store old now new archive archive_new pulls status stop c same i
               | inl cut ↦ inr (inr (inl (omega (arith, cut, ap length texts, length-append (earlier ++ part) front.0, ap length front.1, length-append part front.0))))
               | inr on ↦ inr (inr (inr (ap is_at_work last_is ∙ on)))
             ];
-            after_replies = subst (λ (l : List Item). All (ComesAfter store old.source old.sink l all) pulls) refl (after_longer store old.source old.sink c.items [] so_far further pulls c.after_replies);
+            after_replies = after_longer store old.source old.sink c.items [] so_far further pulls c.after_replies;
           };
           carried = carried_joins further new.disk c.carried (rw c.shown at carried);
           whole = so_far;
@@ -591,8 +575,8 @@ closing_stopped store old now new archive archive_new pulls status stop c same i
 
     undone : (st : Status) → EndsEarly st → ((damage : Damage) → st ≡ Damaged damage → ⊥) → KeepsBy s now.disk new.disk → new.sink.shown ≡ now.sink.shown → Serves store st old new pulls
     undone st early fair keeps shown =
-        ends st early [] [] [] refl (rw append-nil c.closes) (shown ∙ sym (append-nil now.sink.shown)) ([], refl) refl (no_event s now.sink.shown now.disk new.disk beside keeps) (λ is. refl) fair
-        (λ fine. keeps_each s now.disk new.disk keeps) (inr working)
+        ends st early [] [] [] refl (subst (AreStints StoreStint (last_state store c.by_items)) (sym (append-nil c.closing)) c.closes) (shown ∙ sym (append-nil now.sink.shown)) ([], refl) refl (nothing_came s now.sink.shown now.disk new.disk beside keeps) (λ is. refl) fair
+        (λ fine. each_kept s now.disk new.disk keeps) (inr working)
 
     cut : (st : Status) → EndsEarly st → (IsUndoneAt st → ⊥) → ((damage : Damage) → st ≡ Damaged damage → ⊥) → (shown : List ℕ) (i : IsShown s (StoreStint s) shown now.sink.shown new.sink.shown now.disk new.disk) → length shown < length (reply_text i.outcome.reply)
         → ((st ≡ Disk → ⊥) → EachStandsBy new.disk i.outcome.next) → Serves store st old new pulls
@@ -686,7 +670,7 @@ not_begun step stint working stands state status old new early alone keeps = rec
     pulled = [];
     pulled_are = ap (λ (s : SourceState). s.left) (sym alone.0);
     ended = false;
-    ended_is = λ is. cc;
+    ended_is = λ is. absurd (false≢true is);
     reached = [];
     behind = [];
     rest = [];
@@ -699,7 +683,7 @@ not_begun step stint working stands state status old new early alone keeps = rec
     run = inl refl;
     closes = tt;
     at_end = inl refl;
-    closed = λ done. absurd (not_early status early (rw done tt));
+    closed = λ done. absurd (early_undone status early done);
     shown = [];
     shown_is = ap (λ (s : SinkState). s.shown) alone.1 ∙ sym (append-nil old.sink.shown);
     front = ([], refl);
@@ -741,7 +725,7 @@ begins_in_step h d n a empty unread (s, (in_step, spelled, pages, unasked, idle)
     ap (λ (x : History). record s { history = x }) one ∙ ap (λ (x : List Asking). record s { history = h; asked = x }) unasked
     ∙ ap (λ (x : List ℕ). record s { history = h; asked = []; pages = x }) pages
     ∙ ap (λ (x : List Kept). record s { history = h; asked = []; pages = d.holds.pages; kept = x }) kept ∙ ap (λ (x : ℕ). record s { history = h; asked = []; pages = d.holds.pages; kept = []; read = x }) read
-    ∙ ap (λ (x : Option Job). record { history = h; asked = []; pages = d.holds.pages; kept = []; read = d.bytes_read.pages; job = x }) idle in
+    ∙ ap (λ (x : Option Job). record s { history = h; asked = []; pages = d.holds.pages; kept = []; read = d.bytes_read.pages; job = x }) idle in
     subst (AreInStepBy n a) same in_step
 
 -- what a load found it took the bytes for
@@ -759,7 +743,7 @@ loads_archive h image at begins refused = loaded_is_archive image h at begins.sp
 -- where nothing was begun, what is kept is no event
 pub kept_by : (store : Store) (old new : DiskState) (before : List ℕ) → old.now.beside ≡ before → (EachStandsBy old store → KeepsBy store old new) → EachStandsBy old store
     → Carried {R = Reply} reply_text StandsBy store [] before old new × EachStandsBy new store
-kept_by store old new before beside keeps each = (no_event store before old new beside (keeps each), keeps_each store old new (keeps each))
+kept_by store old new before beside keeps each = (nothing_came store before old new beside (keeps each), each_kept store old new (keeps each))
 
 -- a run at its start, behind the load
 pub serving_start : (store : Store) (m : MachineState) (archive : ArchiveState) (held : ReaderState) → held ≡ fresh → m.disk.now.beside ≡ m.sink.shown → AreInStepBy m.disk archive store → Serving store m m archive held []
@@ -768,7 +752,7 @@ serving_start store m archive held is beside in_step = rw is (record {
   outcomes = [];
   run = refl;
   shown = sym (append-nil m.sink.shown);
-  carried = no_event store m.sink.shown m.disk m.disk beside (keeps_nowhere m.disk archive store in_step);
+  carried = nothing_came store m.sink.shown m.disk m.disk beside (keeps_nowhere m.disk archive store in_step);
   in_step = in_step;
   after_replies = All-nil (ComesAfter store m.source m.sink [] []);
 })
@@ -810,7 +794,7 @@ whole_run store status old mid new pulls beside keeps serves = record {
   headline = record {
     ran = serves.ran;
     images = λ each. reopens reply_text StandsBy store serves.ran.outcomes old.sink.shown old.disk new.disk (quiet_ran store status (record { source = old.source; sink = old.sink; disk = mid }) new pulls serves.ran)
-        (carried_joins serves.ran.outcomes new.disk (no_event store old.sink.shown old.disk mid beside (keeps each)) (rw append-nil serves.carried));
+        (carried_joins serves.ran.outcomes new.disk (nothing_came store old.sink.shown old.disk mid beside (keeps each)) (rw append-nil serves.carried));
     last = λ done. subst (EachStandsBy new.disk) (sym (state_after_all store serves.ran.outcomes)) (serves.steady (λ is. rw is at done));
     steady = λ each fine. (length serves.ran.outcomes, omega arith, subst (EachStandsBy new.disk) (sym (state_after_all store serves.ran.outcomes)) (serves.steady fine));
     starved = λ each is. (

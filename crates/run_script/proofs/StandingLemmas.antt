@@ -162,7 +162,7 @@ some_further w (item ∷ items) (outcome ∷ further) some run = omega (arith, m
 none_short : (w : World) (items : List Item) (outcomes : List (Outcome Reply World)) → IsRunWith Step Works at_work w items outcomes → IsShort [] outcomes
 none_short w [] outcomes run = subst (IsShort []) (sym run) refl
 none_short w (item ∷ items) [] run = absurd run
-none_short w (item ∷ items) (outcome ∷ outcomes) run = machine_bytes w item outcome.reply outcome.next run.0
+none_short w (item ∷ items) (outcome ∷ outcomes) run = omega (arith, machine_bytes w item outcome.reply outcome.next run.0)
 
 -- a stint shows a byte, or work goes on behind it
 stint_shows : (w : World) (reply : Reply) (next : World) → Works w reply next → (1 ≤ length (reply_text reply)) ⊎ (at_work next ≡ true)
@@ -272,7 +272,7 @@ runs_on s status input input_now output output_now pulls ran standing range =
           short = λ starved. absurd (elim fault [ inl disk ↦ (let other : Disk ≡ Memory = sym disk ∙ starved in cc) | inr sink ↦ (let other : Sink ≡ Memory = sym sink ∙ starved in cc) ]);
           left = λ left. elim (stint_shows last reply next works) [
             | inl shows ↦ inl (omega (arith, shows, length-append (reply_text reply) (shown_by reply_text on.0)))
-            | inr goes ↦ behind_shows (ran.behind) on.0 next goes on.1 (last_state_joins w so_far (o ∷ on.0))
+            | inr goes ↦ behind_shows ran.behind on.0 next goes on.1 (last_state w (so_far ++ (o ∷ on.0))) (last_state_joins w so_far (o ∷ on.0)) reply
           ];
         })
       where
@@ -297,10 +297,10 @@ runs_on s status input input_now output output_now pulls ran standing range =
             subst (λ (l : List Item). IsRunWith Step Works at_work w l (outcomes ++ o ∷ [])) (sym lacks.events_are) (subst (IsRunWith Step Works at_work w (lacks.before ++ lacks.event ∷ [])) joined all)
 
         -- the items behind show something, or there are none and work goes on
-        behind_shows : (items : List Item) (outcomes : List (Outcome Reply World)) (next : World) → at_work next ≡ true → IsRunWith Step Works at_work next items outcomes → {all : World} → all ≡ last_state next outcomes → {reply : Reply}
+        behind_shows : (items : List Item) (outcomes : List (Outcome Reply World)) (next : World) → at_work next ≡ true → IsRunWith Step Works at_work next items outcomes → (all : World) → all ≡ last_state next outcomes → (reply : Reply)
             → (1 ≤ length (reply_text reply ++ shown_by reply_text outcomes)) ⊎ (at_work all ≡ true)
-        behind_shows [] outcomes next goes run {all} is = inr (ap at_work is ∙ ap (λ (os : List (Outcome Reply World)). at_work (last_state next os)) run ∙ goes)
-        behind_shows (item ∷ items) outcomes next goes run {all} is {reply} = inl (omega (arith, some_further next (item ∷ items) outcomes (λ none. cc) run, length-append (reply_text reply) (shown_by reply_text outcomes)))
+        behind_shows [] outcomes next goes run all is reply = inr (ap at_work is ∙ ap (λ (os : List (Outcome Reply World)). at_work (last_state next os)) run ∙ goes)
+        behind_shows (item ∷ items) outcomes next goes run all is reply = inl (omega (arith, some_further next (item ∷ items) outcomes (λ none. cc) run, length-append (reply_text reply) (shown_by reply_text outcomes)))
 
 -- calls that keep a history are no event
 history_event : (h : History) (before : List ℕ) (old new : DiskState) → old.now.beside ≡ before → KeepsHistory h old new → Carried {R = Reply} reply_text StandsIn (world_of h) [] before old new

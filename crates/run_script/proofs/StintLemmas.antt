@@ -1,23 +1,33 @@
 -- An item with the stint behind it.
-use Rattle.std.proofs.Common.{◌≡◌, ◌⊎◌, ℕ, ◌+◌, ◌<◌, ◌≤◌, Bool, true, false, List, [], ◌∷◌, ◌++◌, length, Result, Ok, Err, refl, inl, inr, ap, sym, subst, ◌∙◌, arith, append_assoc}
-use Rattle.std.proofs.lemmas.List.{append-nil, length-append}
-use Rattle.machine_model.specs.Pushes.{IsPrefix}
+use Rattle.std.proofs.Common.{◌≡◌, ◌⊎◌, ℕ, ◌<◌, Bool, true, false, List, [], ◌∷◌, ◌++◌, length, Option, Some, None, Result, Ok, Err, is_some, refl, inl, inr, ap, sym, subst, ◌∙◌, arith, append_assoc}
+use Rattle.std.proofs.lemmas.Bool.{false≢true}
+use Rattle.std.proofs.lemmas.List.{append-nil}
 use Rattle.machine_model.specs.States.{DiskState, moment}
 use Rattle.machine_model.proofs.MomentLemmas.{allowed_left}
 use Rattle.base_commands.specs.declared.command.Item.{Item}
 use Rattle.pages_sublists.specs.declared.why.Damage.{Damage}
 use Rattle.model_archive.specs.Replies.{reply_text}
 use Rattle.model_archive.specs.Runs.{Outcome, AfterStint, IsRunWith, shown_by}
-use Rattle.model_archive.specs.Standing.{Carried, last_state}
+use Rattle.model_archive.specs.Standing.{Carried}
 use Rattle.model_archive.specs.Steps.{Reply}
 use Rattle.model_archive.proofs.RunLemmas.{carried_joins}
 use Rattle.archive_hand.specs.Changing.{KeepsBy}
+use Rattle.archive_hand.specs.Jobs.{plain_job}
 use Rattle.archive_hand.specs.States.{ArchiveState, AreInStepBy}
 use Rattle.archive_hand.specs.Stored.{Store, EachStandsBy, Spoils, StandsBy, StoreStep, StoreStint, is_at_work}
+use Rattle.archive_hand.specs.declared.job.Job.{Job}
 use Rattle.archive_hand.proofs.StandingLemmas.{works_on_by}
-use Rattle.run_script.specs.Outcomes.{CameOf, CarriesOn, CarriesOut, IsCut, IsShown, IsStopped, IsUndone, NeverSpoiled, Passes, PassesOn}
+use Rattle.run_script.specs.Outcomes.{CameOf, CarriesOn, CarriesOut, IsShown, IsStopped, NeverSpoiled, Passes, PassesOn}
 use Rattle.run_script.specs.declared.stop.Stop.{Stop}
 use Rattle.run_script.specs.declared.stop.Stop.TheVariants as stops
+
+-- a plan is being written, or none is: the archive says so
+works_plain : (job : Option Job) → is_some job ≡ is_some (plain_job job)
+works_plain None = refl
+works_plain (Some job) = refl
+
+pub works_by : (b told : Bool) (d : DiskState) (a : ArchiveState) (s : Store) → AreInStepBy d a s → told ≡ is_some a.job → told ≡ b → is_at_work s ≡ b
+works_by b told d a s in_step is same = sym (works_plain a.job ∙ ap is_some in_step.job_is) ∙ sym is ∙ same
 
 -- a run over one item, where no work was under way, and where it was
 alone : (s : Store) (item : Item) (o : Outcome Reply Store) → StoreStep s item o.reply o.next → is_at_work s ≡ false → IsRunWith StoreStep StoreStint is_at_work s (item ∷ []) (o ∷ [])
@@ -53,13 +63,15 @@ on_stint s item before between after old mid new a b working (shown, is, whole, 
 
 -- ---- stopped
 
-nothing_came : (s : Store) (before : List ℕ) (old new : DiskState) → old.now.beside ≡ before → KeepsBy s old new → Carried {R = Reply} reply_text StandsBy s [] before old new
+-- calls that keep what is stored are no event
+pub nothing_came : (s : Store) (before : List ℕ) (old new : DiskState) → old.now.beside ≡ before → KeepsBy s old new → Carried {R = Reply} reply_text StandsBy s [] before old new
 nothing_came s before old new beside keeps = record {
   goes_on = keeps.goes_on;
   images = λ image other left. let was = keeps.images image other left in ([], was.1 ∙ beside ∙ sym (append-nil before), (was.0, refl));
 }
 
-each_kept : (s : Store) (old new : DiskState) → KeepsBy s old new → EachStandsBy new s
+-- and what is kept over them is so of each image that a stop may leave then
+pub each_kept : (s : Store) (old new : DiskState) → KeepsBy s old new → EachStandsBy new s
 each_kept s old new keeps = λ image allowed. (keeps.images image new.now.beside (allowed_left new (moment old) image allowed)).0
 
 -- at the item
@@ -115,10 +127,10 @@ stopped_item s item stop before after old new archive beside out = go stop out
     not_done stop (inr sink) (inr (damage, is)) = (let other : stops.Sink ≡ stops.Damaged damage = sym sink ∙ is in cc)
 
     go : (stop : Stop) → CarriesOut s (StoreStep s item) (Spoils s item) (Err stop) before after old new archive → IsStopped s item stop before after old new
-    go stops.Disk (inl (keeps, shown)) = undone stops.Disk keeps shown (λ damage is. cc)
+    go stops.Disk (inl (keeps, shown)) = undone stops.Disk keeps shown (λ damage is. absurd cc)
     go stops.Disk (inr (shown, i, short)) = cut stops.Disk (inl refl) shown i short (λ fine. absurd (fine refl)) (not_done stops.Disk (inl refl))
     go stops.Sink ((shown, i, short), each) = cut stops.Sink (inr refl) shown i short (λ fine. each) (not_done stops.Sink (inr refl))
-    go stops.Memory (keeps, shown) = undone stops.Memory keeps shown (λ damage is. cc)
+    go stops.Memory (keeps, shown) = undone stops.Memory keeps shown (λ damage is. absurd cc)
     go (stops.Damaged damage) ((keeps, shown), spoils) = undone (stops.Damaged damage) keeps shown (λ other same. (let one : damage ≡ other = cc in subst (Spoils s item) one spoils))
 
 -- in the stint behind it
@@ -146,7 +158,7 @@ stopped_stint s item stop before between after old mid new a b working beside (s
       shown_is = shown ∙ told ∙ ap (λ (l : List ℕ). before ++ l) (sym (append-nil (shown_by reply_text (o ∷ []))));
       front = ([], refl);
       short = refl;
-      carried = carried_joins [] new is.carried (rw told at (nothing_came o.next between mid new beside keeps));
+      carried = carried_joins [] new is.carried (subst (λ (b : List ℕ). Carried reply_text StandsBy o.next [] b mid new) told (nothing_came o.next between mid new beside keeps));
       undone = λ is. elim is [ inl memory ↦ absurd cc | inr damage ↦ (let other : stops.Disk ≡ stops.Damaged damage.0 = damage.1 in absurd cc) ];
       steady = λ fine. absurd (fine refl);
       unfinished = inr (inr goes);
@@ -165,7 +177,7 @@ stopped_stint s item stop before between after old mid new a b working beside (s
       shown_is = i.shown_is ∙ ap (λ (l : List ℕ). l ++ said) told ∙ append_assoc before (shown_by reply_text (o ∷ [])) said;
       front = (i.front.0, append-nil (reply_text i.outcome.reply) ∙ i.front.1);
       short = short;
-      carried = carried_joins (i.outcome ∷ []) new is.carried (rw told at i.carried);
+      carried = carried_joins (i.outcome ∷ []) new is.carried (subst (λ (b : List ℕ). Carried reply_text StandsBy o.next (i.outcome ∷ []) b mid new) told i.carried);
       undone = λ is. absurd (done is);
       steady = each;
       unfinished = inr (inl (omega (arith, short, ap length (append-nil (reply_text i.outcome.reply)))));
@@ -177,7 +189,17 @@ stopped_stint s item stop before between after old mid new a b working beside (s
     go stops.Disk fed (inr (said, i, short)) = cut stops.Disk (λ is. elim is [ inl memory ↦ cc | inr damage ↦ (let other : stops.Disk ≡ stops.Damaged damage.0 = damage.1 in cc) ]) said i short (λ fine. absurd (fine refl))
     go stops.Sink fed ((said, i, short), each) = cut stops.Sink (λ is. elim is [ inl memory ↦ cc | inr damage ↦ (let other : stops.Sink ≡ stops.Damaged damage.0 = damage.1 in cc) ]) said i short (λ fine. each)
     go stops.Memory fed out = absurd (fed refl)
-    go (stops.Damaged damage) fed (undone, never) = absurd never
+    go (stops.Damaged damage) fed (none, never) = absurd never
+
+-- what came of the item, by how the stint behind it ended
+pub on_work : (s : Store) (item : Item) (result : Result (Unit {0}) Stop) (before between after : List ℕ) (old mid new : DiskState) (a b : ArchiveState) → is_at_work s ≡ true → mid.now.beside ≡ between → (one : CarriesOut s (StoreStep s item) (Spoils s item) (Ok tt) before between old mid a)
+    → (result ≡ Err stops.Memory → ⊥) → CarriesOut one.1.outcome.next (StoreStint one.1.outcome.next) NeverSpoiled result between after mid new b → CarriesOn s item result before after old new b
+on_work s item (Ok done) before between after old mid new a b working beside one fed out = on_stint s item before between after old mid new a b working one out
+on_work s item (Err stop) before between after old mid new a b working beside one fed out = stopped_stint s item stop before between after old mid new a b working beside one (λ is. fed (ap Err is)) out
+
+-- an item ends no work
+pub on_ended : (s : Store) (item : Item) (before after : List ℕ) (old new : DiskState) (a : ArchiveState) → is_at_work s ≡ true → (one : CarriesOut s (StoreStep s item) (Spoils s item) (Ok tt) before after old new a) → is_at_work one.1.outcome.next ≡ false → CarriesOn s item (Ok tt) before after old new a
+on_ended s item before after old new a working (shown, is, whole, in_step) ended = absurd (false≢true (sym ended ∙ works_on_by s item is.outcome.reply is.outcome.next is.step working))
 
 -- ---- by the disk alone
 
@@ -201,3 +223,10 @@ passes_never s next item stops.Disk d archive passes = tt
 passes_never s next item stops.Sink d archive passes = tt
 passes_never s next item stops.Memory d archive passes = tt
 passes_never s next item (stops.Damaged damage) d archive (never, pages) = absurd never
+
+pub passes_work : (s : Store) (item : Item) (result : Result (Unit {0}) Stop) (d e : DiskState) (a b : ArchiveState) → is_at_work s ≡ true → (one : Passes s (StoreStep s item) (Spoils s item) (Ok tt) d a) → Passes one.1 (StoreStint one.1) NeverSpoiled result e b → PassesOn s item result e b
+passes_work s item (Ok done) d e a b working one then = passes_stint s item d e a b working one then
+passes_work s item (Err stop) d e a b working one then = passes_never s one.1 item stop e b then
+
+pub passes_ended : (s : Store) (item : Item) (d : DiskState) (a : ArchiveState) → is_at_work s ≡ true → (one : Passes s (StoreStep s item) (Spoils s item) (Ok tt) d a) → is_at_work one.1 ≡ false → PassesOn s item (Ok tt) d a
+passes_ended s item d a working (reply, next, step, in_step) ended = absurd (false≢true (sym ended ∙ works_on_by s item reply next step working))

@@ -1,7 +1,7 @@
 -- A run while it goes on, and when it has ended: what it pulled, and what it did.
-use Rattle.std.specs.Prelude.{◌≡◌, ◌⊎◌, ◌<◌, ℕ, true, false, List, [], ◌∷◌, ◌++◌, length, map, All, Option, Some, None, Result, Ok, Err}
+use Rattle.std.specs.Prelude.{◌≡◌, ◌⊎◌, ℕ, true, false, List, [], ◌∷◌, ◌++◌, map, All, Option, Some, None, Result, Ok, Err}
 use Rattle.machine_model.specs.Pulls.{Pull}
-use Rattle.machine_model.specs.States.{DiskState, SourceState, MachineState}
+use Rattle.machine_model.specs.States.{DiskState, MachineState, SinkState, SourceState}
 use Rattle.base_commands.specs.declared.command.Item.{Item}
 use Rattle.script_items.specs.Reading.{ReaderState, IsAwaited, IsCalm, Says, Reads}
 use Rattle.script_items.specs.Items.{Splits}

@@ -7,6 +7,7 @@ ghost use Rattle.archive_hand.specs.Jobs.{plain_job};
 ghost use Rattle.archive_hand.specs.States.{AreInStepBy};
 ghost use Rattle.archive_hand.specs.Stored.{Spoils, Store, StoreStep, StoreStint, TellsNoEntry};
 ghost use Rattle.archive_hand.specs.Adding.{IsDone};
+ghost use Rattle.archive_hand.specs.Takes.{said};
 ghost use Rattle.archive_changes.specs.Endings.{begun, changed, changed_all, plainly, planned, unchanged};
 ghost use Rattle.archive_questions.specs.Endings.{approximated, proposed, shared, version_shown, unanswered, verified};
 ghost use Rattle.base_commands.specs.declared.command.Item.TheVariants as items;
@@ -141,6 +142,7 @@ pub(crate) fn work<D: Disk>(
     ensures only { D.Disk.only disk.old disk.new }
     ensures disk_fault { IsErrOf result Halt.Disk → Rose (D.disk disk.old).faults (D.disk disk.new).faults }
     ensures fed { IsErrOf result Halt.Memory → ⊥ }
+    ensures undamaged { (d : Damage) → IsErrOf result (Halt.Damaged d) → ⊥ }
     ensures left { OnOk result (IsLeft D.disk_tells (D.disk disk.old) (D.disk disk.new) archive.old archive.new) }
     ensures less { OnOk result (left_of (plain_job archive.new.job) < left_of (plain_job archive.old.job)) }
     // What comes of it by what reads give, whatever lies in Pages.
@@ -156,15 +158,27 @@ fn write_stint(page: &mut ReplyPage, stint: Result<Stint, Failed>) -> Result<(),
     ensures writes { WritesStint stint result page.new.bytes }
     ensures fault { IsErrOf result Halt.Disk → IsErr stint }
     ensures fed { IsErrOf result Halt.Memory → ⊥ }
+    ensures undamaged { (d : Damage) → IsErrOf result (Halt.Damaged d) → ⊥ }
     ensures made { OnOk result (IsOk stint) }
 {
     match stint {
-        Ok(Stint::Wrote { .. }) => page.silent(),
-        Ok(Stint::Done(summary)) => page.finished(summary),
-        Ok(Stint::Dropped(why)) => page.refused(why),
-        Err(Failed) => return Err(Halt::Disk),
+        Ok(stint) => {
+            write_said(page, stint);
+            Ok(())
+        }
+        Err(Failed) => Err(Halt::Disk),
     }
-    Ok(())
+}
+
+/// Writes what a stint says on the page.
+fn write_said(page: &mut ReplyPage, stint: Stint)
+    ensures { page.new.bytes ≡ reply_text (said stint) }
+{
+    match stint {
+        Stint::Wrote { .. } => page.silent(),
+        Stint::Done(summary) => page.finished(summary),
+        Stint::Dropped(why) => page.refused(why),
+    }
 }
 
 /// Carries out an arrival. A text that was too long to be kept is refused for that.

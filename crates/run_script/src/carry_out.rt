@@ -14,6 +14,7 @@ use archive_hand::Archive;
 use archive_replies::{ReplyPage, show};
 use base_commands::Item;
 use machine_model::Machine;
+use pages_sublists::Damage;
 use std::alloc::Global;
 
 /// Carries out an item and shows its reply, and then, if a plan was being written when it came, does a stint
@@ -45,8 +46,11 @@ pub(crate) fn carry_on<M: Machine>(
         Ok(()) => {}
         Err(stop) => return Err(stop),
     }
+    if !working {
+        return Ok(());
+    }
     // No item ends the work.
-    if working && archive.is_at_work() {
+    if archive.is_at_work() {
         return do_stint(machine, archive, page);
     }
     Ok(())
@@ -99,6 +103,7 @@ pub(crate) fn do_stint<M: Machine>(
     ensures disk_fault { IsErrOf result Stop.Disk → Rose (M.disk machine.old).faults (M.disk machine.new).faults }
     ensures sink_fault { IsErrOf result Stop.Sink → Rose (M.sink machine.old).faults (M.sink machine.new).faults }
     ensures fed { IsErrOf result Stop.Memory → ⊥ }
+    ensures undamaged { (d : Damage) → IsErrOf result (Stop.Damaged d) → ⊥ }
     ensures left { OnOk result (IsLeft M.disk_tells (M.disk machine.old) (M.disk machine.new) archive.old archive.new) }
     ensures less { OnOk result (left_of (plain_job archive.new.job) < left_of (plain_job archive.old.job)) }
     ensures outcome { M.disk_tells → M.sink_tells → (s : Store) → AreInStepBy (M.disk machine.old) archive.old s →

@@ -74,7 +74,7 @@ pub(crate) fn step<M: Machine>(
         (pulls : List Pull) × M.asked machine.old pulls machine.new × MatchResult result
         (λ _. Serving s began (state_by M.source M.sink M.disk machine.new) archive.new reader.new (before ++ pulls))
         (λ status. HasGoneOver s status began (state_by M.source M.sink M.disk machine.new) archive.new (before ++ pulls)) }
-    ensures ready { IsErrOf result Status.Done → CanGoOn archive.new (M.disk machine.new).reach }
+    ensures ready { IfErr result (λ status. status ≡ Status.Done → CanGoOn archive.new (M.disk machine.new).reach) }
     // By the disk alone: an item was carried out, or it came to a damage.
     ensures passes { M.disk_tells → (s : Store) → AreInStepBy (M.disk machine.old) archive.old s → MatchResult result
         (λ _. HasPassed M.source_tells s (M.disk machine.new) archive.new (M.source machine.old)
@@ -142,8 +142,10 @@ pub(crate) fn serve<M: Machine>(
     'items: loop {
         match step(alloc, machine, reader, archive, page) {
             Ok(()) => {}
-            Err(Status::Done) => return close(machine, archive, page),
-            Err(status) => return status,
+            Err(status) => match status {
+                Status::Done => return close(machine, archive, page),
+                _ => return status,
+            },
         }
     }
 }

@@ -28,15 +28,15 @@ asked g c =
 
 -- the stint has an outcome, and its reply was shown, or a front of it
 outcome : (g : Over) (c : After-show g) (result : Result (Unit {0}) Stop) → g.M.Disk.disk_tells → g.M.Sink.sink_tells → (s : Store) → AreInStepBy (g.M.Disk.disk c.args.machine.now) c.args.archive.now s
-    → ShownTo (g.M.Sink.sink c.work.new.disk).shown (g.M.Sink.sink c.show.new.sink).shown c.as_bytes.result.now result
+    → ShownTo (g.M.Sink.sink c.work.new.disk).shown (g.M.Sink.sink c.show.new.sink).shown c.as_bytes-said.result.now result
     → CarriesOut s (StoreStint s) NeverSpoiled result (g.M.Sink.sink c.args.machine.now).shown (g.M.Sink.sink c.show.new.sink).shown (g.M.Disk.disk c.args.machine.now) (g.M.Disk.disk c.show.new.sink) c.work.new.archive
 outcome g c result disk_tells sink_tells s in_step to =
     let m = g.met.M.Machine in
     let mid = c.work.new.disk in
     let last = c.show.new.sink in
     let shown = ap (λ (t : SinkState). t.shown) (m.disk_alone c.args.machine.now mid c.work.ensures.only).1 in
-    rw shown at (carried_out s (StoreStint s) NeverSpoiled result (g.M.Sink.sink mid).shown (g.M.Sink.sink last).shown (g.M.Disk.disk c.args.machine.now) (g.M.Disk.disk mid) (g.M.Disk.disk last) c.work.new.archive c.as_bytes.result.now
-    (rw (← c.as_bytes.ensures) at (c.in-Ok.ensures.outcome disk_tells s in_step)) (m.beside_shown c.args.machine.now sink_tells disk_tells ∙ sym shown)
+    rw shown at (carried_out s (StoreStint s) NeverSpoiled result (g.M.Sink.sink mid).shown (g.M.Sink.sink last).shown (g.M.Disk.disk c.args.machine.now) (g.M.Disk.disk mid) (g.M.Disk.disk last) c.work.new.archive c.as_bytes-said.result.now
+    (rw (← c.as_bytes-said.ensures) at (c.in-Ok.ensures.outcome disk_tells s in_step)) (m.beside_shown c.args.machine.now sink_tells disk_tells ∙ sym shown)
     (m.shows mid last sink_tells disk_tells c.show.ensures.only) (m.sink_alone mid last c.show.ensures.only).1 (c.show.ensures.front sink_tells) to)
 
 pub returns-in-Ok-show-clause-asked : goal.returns-in-Ok-show-clause-asked

@@ -160,7 +160,7 @@ returns-clause-headline g c = λ source_tells sink_tells disk_tells h stands.
       pulls,
       asked,
       standing_run h d c.serve.result (state_by g.M.Source.source g.M.Sink.sink g.M.Disk.disk m) (g.M.Disk.disk c.load.new.disk) (state_by g.M.Source.source g.M.Sink.sink g.M.Disk.disk c.serve.new.machine) pulls
-          (record { loadable = stands.loadable; held = stands.held }) (g.met.M.Machine.beside_shown m sink_tells disk_tells) (c.load.ensures.crash disk_tells h) serves,
+          (record { loadable = stands.loadable; may = tt; held = stands.held }) (g.met.M.Machine.beside_shown m sink_tells disk_tells) (c.load.ensures.crash disk_tells h) serves,
     )
 
 pub returns-clause-by_reads : goal.returns-clause-by_reads

@@ -6,7 +6,7 @@ use Rattle.model_archive.specs.Standing.{last_state}
 use Rattle.archive_hand.specs.States.{AreInStepBy}
 use Rattle.archive_hand.specs.Stored.{Store}
 use Rattle.run_script.specs.Serving.{Gives, Pulling, Serving, pulls_beside}
-use Rattle.run_script.proofs.PullLemmas.{early_behind, ends_by, passes_one, pulling_next, spoils_one, stops_early}
+use Rattle.run_script.proofs.PullLemmas.{early_behind, early_undone, ends_by, passes_one, pulling_next, spoils_one, stops_early}
 use Rattle.run_script.proofs.ServeLemmas.{ended_by, gone_over_early, serving_next, stopped}
 use Rattle.run_script.proofs.serve.step.Given.{Over}
 use Rattle.run_script.proofs.serve.step.Goals.{After-carry_on, After-next_item}
@@ -73,6 +73,13 @@ returns-in-Err-carry_on-clause-goes_on g c = λ source_tells sink_tells disk_tel
 
 pub returns-in-Ok-carry_on-clause-left : goal.returns-in-Ok-carry_on-clause-left
 returns-in-Ok-carry_on-clause-left g c = rw c.next_item.ensures.disk at c.in-Ok-carry_on.ensures.left
+
+-- where the input is gone over the archive can go on, and at an item no run ends so
+pub returns-in-Err-clause-ready : goal.returns-in-Err-clause-ready
+returns-in-Err-clause-ready g c = λ is. rw c.next_item.ensures.disk c.requires.ready
+
+pub returns-in-Err-carry_on-clause-ready : goal.returns-in-Err-carry_on-clause-ready
+returns-in-Err-carry_on-clause-ready g c = λ is. absurd (early_undone c.from.result (stops_early c.from.result c.in-Err-carry_on.stop c.from.ensures) is)
 
 -- what is stored where the item was taken
 taken : (g : Over) (c : After-next_item g) (s : Store) → AreInStepBy (g.M.Disk.disk c.args.machine.now) c.args.archive.now s → AreInStepBy (g.M.Disk.disk c.next_item.new.machine) c.args.archive.now s
