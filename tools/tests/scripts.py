@@ -19,7 +19,7 @@ import sys
 import tempfile
 from pathlib import Path
 
-from model import OPEN, PAGE, Archive, Choice, Differs, NotArchive, Outcome, read_journal, spell_journal
+from model import OPEN, PAGE, Archive, Choice, Differs, NotArchive, Outcome, read_journal, spell_journal, words_of
 
 MOST_SECONDS = 60
 #: Words as they are spelled; those of one row have one key.
@@ -323,6 +323,7 @@ class Folder:
         self.archive = Archive()
         self.outcome = Outcome(b"", "", 0)  #: how the last run ended whose difference was asked for
         self.was_cut = False  #: whether a run was cut short, and may have left bytes behind the last gate
+        self.pulled = 0  #: how many bytes of the script the last run pulled
         memory = "/dev/shm" if Path("/dev/shm").is_dir() else None
         self.path = path or Path(tempfile.mkdtemp(prefix="hostile-", dir=memory))
         self.journal, self.pages = self.path / "archive.journal", self.path / "archive.pages"
@@ -333,17 +334,23 @@ class Folder:
     def __exit__(self, *_: object) -> None:
         shutil.rmtree(self.path)
 
+    def files(self) -> list[bytes]:
+        """What the journal and Pages hold."""
+        return [it.read_bytes() if it.exists() else b"" for it in (self.journal, self.pages)]
+
     def run(self, script: bytes) -> Outcome:
         """What the program shows of a script, and how it ends."""
         return self.run_as([self.program], script)
 
     def run_as(self, command: list[str], script: bytes, **given: object) -> Outcome:
-        """The same of a command, with the script in a file as standard input, and with what else is given."""
+        """The same of a command, with the script in a file as standard input, and with what else is given. (Where words stand in the
+        script's place, it has them too.)"""
         path = self.path / "script"
         path.write_bytes(script)
         with path.open("rb") as source:
             streams = {"stdin": source, "stdout": subprocess.PIPE, "stderr": subprocess.PIPE, **given}
-            ended = subprocess.run(command, cwd=self.path, timeout=MOST_SECONDS, **streams)
+            ended = subprocess.run([*command, *words_of(script)], cwd=self.path, timeout=MOST_SECONDS, **streams)
+            self.pulled = source.tell()
         return Outcome(ended.stdout or b"", (ended.stderr or b"").decode(errors="replace"), ended.returncode)
 
     def difference(self, script: bytes) -> str:

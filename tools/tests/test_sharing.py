@@ -43,7 +43,7 @@ ROWS = [
 BY_BLOCKS = (BLOCKS + b"plan v guarantee 1/1\nbest 2 15 v\n", b"hit 1 3\nhit 2 1\nend 2 read 256 opened %d of 2\n")
 LOG = """# asked
 find 90000000 w1
-find 1972-10-01 w1 and not W2
+find 1972-10-01 w1 and not w2
 top 5 1972-10-01 w1^3 or w4
   best 2 1972-10-09 w2
 find 1972-10-09 (w2
@@ -121,7 +121,7 @@ class Shares(ArchiveCase):
         self.assertEqual([time for time, _ in found], [90_000_000, *[1_004 * DAY] * 2, *[1_012 * DAY] * 2, 1_013 * DAY, 99_999_999_999])
         self.assertEqual([query for _, query in found][2:4], ["w1^3 or w4", "w2"])
         self.assertEqual(skipped, 3)
-        self.assertEqual(asked_keys("w1^3 or not (W2 and w1) ^5 x^0"), {"w1", "w2", "5", "x", "0"})
+        self.assertEqual(asked_keys("red^3 or not (BLUE and red) ^5 x^0"), {"red", "blue", "5", "x", "0"})
 
     @needs("shares", "queries")
     def test_shares(self) -> None:

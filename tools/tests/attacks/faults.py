@@ -6,12 +6,14 @@ import random
 import re
 from collections import Counter
 from dataclasses import dataclass
+from itertools import product
 from typing import Callable, Iterator
 
 from model import Outcome
 from scripts import Folder
 
-from attacks.rig import AUDIT_FAULT, DISK_FAULT, NO_LOCKS, RUNS, SCRIPT, SINK_FAULT, SOURCE_FAULT, Whole, expect, nothing, some
+from attacks.rig import AUDIT_FAULT, BATCH_SCRIPT, DISK_FAULT, NO_LOCKS, REFUSED, RUNS, SAMPLE, SCRIPT, SINK_FAULT, SOURCE_FAULT
+from attacks.rig import Whole, expect, nothing, some
 
 FILES = [".", "archive.journal", "archive.pages"]
 CALL = re.compile(r"^\d+ +(\w+)\(", re.MULTILINE)
@@ -69,13 +71,14 @@ def _nth(fault: str, nth: int) -> str:
 
 def _told(fill: Callable[[Folder], None], script: bytes) -> str:
     """What a run is on, in words."""
-    return ("a new archive" if fill is nothing else "an archive with plans") + (", with batches" if script is not SCRIPT else "")
+    kind = {BATCH_SCRIPT: ", with batches", SAMPLE: ", by a sample"}.get(script, "")
+    return ("a new archive" if fill is nothing else "an archive with plans") + kind
 
 
 def fail_calls(program: str, audit: str, *, is_all: bool) -> str:
     """Each call on the files fails once; the run ends as it is to, and nothing is lost."""
     told, tracer = Counter[str](), Tracer(program, FILES)
-    for fill, script in RUNS:
+    for fill, script in [*RUNS, REFUSED]:
         whole = Whole.of(program, fill, script)
         with Folder(program) as first:
             fill(first)
@@ -108,17 +111,17 @@ def fail_random_calls(program: str, audit: str, *, is_all: bool) -> str:
 
 def fail_streams(program: str, audit: str) -> str:
     """Each call on the standard streams fails once."""
-    whole, count = Whole.of(program, some), 0
-    for stream, calls, allowed in (("script", READS, SOURCE_FAULT), ("shown", WRITES, SINK_FAULT)):
+    count, streams = 0, [("script", READS, SOURCE_FAULT), ("shown", WRITES, SINK_FAULT)]
+    for whole, (stream, calls, allowed) in product([Whole.of(program, some), Whole.of(program, nothing, SAMPLE)], streams):
         tracer = Tracer(program, [stream])
         with Folder(program) as first:
-            some(first)
-            for name, fault in tracer.faults(first, Outcome(whole.shown, "", 0), 1):
+            whole.fill(first)
+            for name, fault in tracer.faults(first, whole.outcome, 1, whole.script):
                 if name not in calls or (stream == "script" and fault.startswith("retval=0")):
                     continue  # (a read of no byte is the end of the script)
                 with Folder(program) as folder:
-                    some(folder)
-                    outcome = tracer.run_with(folder, name, fault)
+                    whole.fill(folder)
+                    outcome = tracer.run_with(folder, name, fault, whole.script)
                     whole.check_cut(folder, outcome, [allowed], f"{name} with {fault} of the {stream}")
                     count += 1
     return f"{count} calls on streams that fail"
@@ -129,7 +132,7 @@ def fail_audits(program: str, audit: str) -> str:
     count = 0
     with Folder(program) as folder:
         some(folder)
-        files = _files(folder)
+        files = folder.files()
         whole = Outcome(b"sound 2 2\n", "", 0)
         for names, allowed in ((FILES, AUDIT_FAULT), (["shown"], Outcome(b"", "tt_verify: sink fault\n", 6))):
             tracer = Tracer(audit, names)
@@ -138,19 +141,15 @@ def fail_audits(program: str, audit: str) -> str:
                 no_locks = Outcome(b"", NO_LOCKS.line.replace("tt_archive", "tt_verify"), 4)
                 wanted = no_locks if name == "flock" else allowed
                 expect(outcome in (whole, wanted), f"an audit, and {name} with {fault}: {outcome}")
-                expect(_files(folder) == files, f"an audit changes a file at {name} with {fault}")
+                expect(folder.files() == files, f"an audit changes a file at {name} with {fault}")
                 count += 1
     return f"{count} calls of audits that fail"
-
-
-def _files(folder: Folder) -> list[bytes]:
-    return [folder.journal.read_bytes(), folder.pages.read_bytes()]
 
 
 def die_at_calls(program: str, audit: str) -> str:
     """The program is killed at each call on the files that makes, changes or syncs one, before the call is made."""
     count, tracer = 0, Tracer(program, FILES)
-    for fill, script in RUNS:
+    for fill, script in [*RUNS, REFUSED]:
         whole = Whole.of(program, fill, script)
         with Folder(program) as first:
             fill(first)

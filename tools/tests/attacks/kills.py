@@ -8,27 +8,51 @@ import subprocess
 import time
 from collections import Counter
 
-from model import Choice, Differs, NotArchive, items, read_journal
+from model import Choice, Differs, NotArchive, Outcome, items, read_journal, spell_journal, words_of
 from scripts import Folder
 
-from attacks.rig import Wrong, acknowledged, expect
+from attacks.rig import STREAMS, Whole, Wrong, acknowledged, expect, nothing
 
-DEATHS = 500
+#: How many programs are killed, and for the gate how many samples.
+DEATHS, SAMPLES = 500, 40
+#: Of documents that come twice.
+LONG_SAMPLE = b"--generate 7 --count 400\n"
+KILLED = Outcome(b"", "", -9)
 COMMANDS = 300
 MOST_SECONDS = 0.0005
 #: After so many entries the next archive is begun, since the model plans slowly.
 MOST_ENTRIES = 80
 
 
-def kill_programs(program: str, audit: str) -> str:
+def kill_programs(program: str, audit: str, *, is_all: bool) -> str:
     """Kills the program at random moments of its work."""
-    processors = os.sched_getaffinity(0)
+    processors, samples = os.sched_getaffinity(0), DEATHS if is_all else SAMPLES
     os.sched_setaffinity(0, {min(processors)})  # (both on one processor, so that the program works just while this one sleeps)
     try:
-        told = _killed_often(program)
+        told, amid = _killed_often(program), _killed_samples(program, samples)
     finally:
         os.sched_setaffinity(0, processors)
-    return f"{told.total()} deaths at random moments, {told['amid']} of them amid changes"
+    deaths = f"{told.total()} deaths at random moments, {told['amid']} of them amid changes"
+    return f"{deaths}, and {samples} of samples, {amid} of them amid theirs"
+
+
+def _killed_samples(program: str, deaths: int) -> int:
+    """How many samples died amid their entries."""
+    chance, whole, amid = random.Random(7), Whole.of(program, nothing, LONG_SAMPLE), 0
+    length = len(spell_journal(whole.entries))
+    for number in range(deaths):
+        with Folder(program) as folder:
+            with subprocess.Popen([program, *words_of(LONG_SAMPLE)], cwd=folder.path, **STREAMS) as process:
+                reached = chance.randrange(length)
+                while process.poll() is None and len(folder.files()[0]) < reached:
+                    time.sleep(MOST_SECONDS / 5 * chance.random())
+                process.kill()
+                shown, line = process.communicate()
+            entries = read_journal(folder.files()[0])
+            outcome = Outcome(shown, line.decode(), process.returncode)
+            whole.check_cut(folder, outcome, [KILLED], f"death {number} of a sample")
+            amid += 0 < len(entries) < len(whole.entries)
+    return amid
 
 
 def _killed_often(program: str) -> Counter[str]:
@@ -83,8 +107,7 @@ def _killed(folder: Folder, chance: random.Random) -> str:
     against the model. (Some are given all at once, so that they may die in their load.) Tells whether it died before the first
     change, amid the changes or behind them."""
     questions, changes = _questions(folder), _changes(folder, chance)
-    streams = {"stdin": subprocess.PIPE, "stdout": subprocess.PIPE, "stderr": subprocess.PIPE}
-    with subprocess.Popen([folder.program], cwd=folder.path, bufsize=0, **streams) as process:
+    with subprocess.Popen([folder.program], cwd=folder.path, bufsize=0, **STREAMS) as process:
         process.stdin.write(questions)
         shown, before, is_loaded = b"", len(folder.archive.entries), chance.randrange(16) > 0
         while is_loaded and b"sound " not in shown:

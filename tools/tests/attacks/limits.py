@@ -84,4 +84,12 @@ def reach_limits(program: str, audit: str) -> str:
         b"arrive 1 1048576 1\nv\npropose v guarantee 2/1\nplan v guarantee 1/1\nfind 1000000 v\nverify\n",
         b"ok 1048577\n" + 2 * b"no 9 TooWide 1048577\n" + b"hit 1 1\nend 1 read 524289\nsound 0 0\n",
     )
-    return "6 limits, and what goes beyond them"
+    # (The model takes minutes for this one. It told the same, once.)
+    _expect(
+        program,
+        "the longest sample",
+        [],
+        b"--generate 9999999999999999999 --count 100000\n",
+        b"generated 100000 accepted 90008 refused 10000 hits 17 read 3517\nsound 8 13006\n",
+    )
+    return "7 limits, and what goes beyond them"

@@ -12,7 +12,7 @@ from typing import Iterator
 from model import OPEN
 from scripts import Folder
 
-from attacks.rig import RUNS, Whole, acknowledged, expect
+from attacks.rig import RUNS, Whole, expect
 
 NAMES = [".", "archive.journal", "archive.pages"]
 CALLS = "openat,fcntl,pwrite64,ftruncate,fsync,fdatasync,write"
@@ -123,6 +123,5 @@ def _check_failure(program: str, whole: Whole, record: Record, kind: str, chance
         for name, disk in record.disks.items():
             if disk.stable is not None or chance.randrange(2):
                 (folder.path / name).write_bytes(disk.left(kind, chance))
-        count = max(whole.entries_before, acknowledged(record.shown))
         what = f"a power failure of the script {whole.script!r}, behind the replies {record.shown!r}, which leaves `{kind}`"
-        whole.check_next(folder, count, what)
+        whole.check_next(folder, record.shown, what)

@@ -12,7 +12,7 @@ from pathlib import Path
 from model import Outcome
 from scripts import Folder
 
-from attacks.rig import NO_MEMORY, Whole, expect, some
+from attacks.rig import NO_MEMORY, SAMPLE, Whole, expect, nothing, some
 
 SOURCE = Path(__file__).with_name("refuse.c")
 MOST = 2_000
@@ -44,11 +44,11 @@ class Refuser:
     program: str
     library: Path
 
-    def run(self, folder: Folder, nth: int) -> tuple[Outcome, int]:
-        """Runs the script; tells too how many allocations were asked for. None has the number 0."""
+    def run(self, folder: Folder, nth: int, script: bytes = b"") -> tuple[Outcome, int]:
+        """Runs a script; tells too how many allocations were asked for. None has the number 0."""
         counts = folder.path / "counts"
         environment = {**os.environ, "LD_PRELOAD": str(self.library), "REFUSE_AT": str(nth), "REFUSE_COUNTS": str(counts)}
-        outcome = folder.run_as([self.program], LONG_SCRIPT, env=environment)
+        outcome = folder.run_as([self.program], script, env=environment)
         return outcome, int(counts.read_text())
 
 
@@ -58,20 +58,28 @@ def refuse_memory(program: str, audit: str, *, is_all: bool) -> str:
         library = build(Path(place))
         if library is None:
             return "want of memory was left out, since there is no C compiler"
-        refuser, whole, ended = Refuser(program, library), Whole.of(program, some, LONG_SCRIPT), 0
-        with Folder(program) as folder:
-            some(folder)
-            outcome, asked = refuser.run(folder, 0)
-            expect(outcome == Outcome(whole.shown, "", 0) and asked > MOST, f"a run that asks for {asked} allocations: {outcome}")
-        tried = range(1, MOST + 1) if is_all else [*range(1, 41), *range(41, MOST, 25)]
-        for nth in tried:
-            with Folder(program) as folder:
-                some(folder)
-                outcome, _ = refuser.run(folder, nth)
-                whole.check_cut(folder, outcome, [NO_MEMORY], f"allocation {nth} refused")
-                ended += outcome.status == 12
+        refuser = Refuser(program, library)
+        told = [_refuse(refuser, Whole.of(program, *run), is_all) for run in ((some, LONG_SCRIPT), (nothing, SAMPLE))]
         audits = _refuse_audits(program, Refuser(audit, library))
-    return f"{len(tried)} allocations of {asked} refused, at {ended} of which the run ended, and {audits} of audits"
+    return f"{told[0]} the run ended, of a sample {told[1]} it ended, and {audits} of audits"
+
+
+def _refuse(refuser: Refuser, whole: Whole, is_all: bool) -> str:
+    """Some allocations of a run are refused."""
+    ended = 0
+    with Folder(refuser.program) as folder:
+        whole.fill(folder)
+        outcome, asked = refuser.run(folder, 0, whole.script)
+        expect(outcome == whole.outcome, f"a run that asks for {asked} allocations: {outcome}")
+    most = min(MOST, asked)
+    tried = range(1, most + 1) if is_all else [*range(1, 41), *range(41, most, 25)]
+    for nth in tried:
+        with Folder(refuser.program) as folder:
+            whole.fill(folder)
+            outcome, _ = refuser.run(folder, nth, whole.script)
+            whole.check_cut(folder, outcome, [NO_MEMORY], f"allocation {nth} refused")
+            ended += outcome.status == 12
+    return f"{len(tried)} allocations of {asked} refused, at {ended} of which"
 
 
 def _refuse_audits(program: str, refuser: Refuser) -> int:

@@ -7,14 +7,15 @@ import resource
 import shutil
 import signal
 import subprocess
+from itertools import product
 from pathlib import Path
 from typing import Callable
 
 from model import HEADER, Outcome
 from scripts import Folder
 
-from attacks.rig import AUDIT_FAULT, DISK_FAULT, NEXT_SCRIPT, RUNS, SCRIPT, SINK_FAULT, SOURCE_FAULT
-from attacks.rig import Whole, acknowledged, ends, expect, nothing, some
+from attacks.rig import AUDIT_FAULT, DISK_FAULT, NEXT_SCRIPT, RUNS, SAMPLE, SCRIPT, SINK_FAULT, SOURCE_FAULT
+from attacks.rig import Whole, ends, expect, nothing, some
 
 DONE = Outcome(b"", "", 0)
 #: The length of a file that is nearly nothing but a hole.
@@ -102,8 +103,8 @@ def sparse_files(program: str, audit: str) -> str:
 
 
 def odd_streams(program: str, audit: str) -> str:
-    """Streams that can't be read or written, or are closed. What was acknowledged stays."""
-    whole = Whole.of(program, some)
+    """Streams that can't be read or written, or are closed. What was acknowledged stays. A sample doesn't ask for its input."""
+    wholes = Whole.of(program, some), Whole.of(program, nothing, SAMPLE)
     reader, writer = os.pipe()
     os.close(reader)
     root = os.open("/", os.O_RDONLY)
@@ -115,10 +116,11 @@ def odd_streams(program: str, audit: str) -> str:
             ("standard output can't be written", {"stdout": source}, SINK_FAULT),
             ("nobody reads standard output", {"stdout": writer}, SINK_FAULT),
         ]
-        for what, streams, wanted in tries:
+        for whole, (what, streams, wanted) in product(wholes, tries):
+            wanted = whole.outcome if whole.script == SAMPLE and "stdin" in streams else wanted
             with Folder(program) as folder:
                 whole.fill(folder)
-                outcome = folder.run_as([program], SCRIPT, **streams)
+                outcome = folder.run_as([program], whole.script, **streams)
                 expect(outcome == wanted, f"{what}: {outcome}")
                 whole.check_cut(folder, outcome, [wanted], what)
     os.close(root)
@@ -128,12 +130,13 @@ def odd_streams(program: str, audit: str) -> str:
         **{"<&-": SOURCE_FAULT, ">&-": SINK_FAULT, "2>&-": DONE, "<&- >&-": SOURCE_FAULT},
         **{"<&- 2>&-": Outcome(b"", "", 5), ">&- 2>&-": Outcome(b"", "", 6), "<&- >&- 2>&-": Outcome(b"", "", 5)},
     }
-    for words, wanted in closed.items():
+    for whole, words in product(wholes, closed):
+        wanted = closed.get(words.removeprefix("<&-").lstrip() if whole.script == SAMPLE else words, DONE)
         with Folder(program) as folder:
             whole.fill(folder)
-            outcome = folder.run_as(["/bin/sh", "-c", f'exec "$0" {words}', program], SCRIPT)
+            outcome = folder.run_as(["/bin/sh", "-c", f'exec "$0" "$@" {words}', program], whole.script)
             whole.check_cut(folder, outcome, [wanted], f"a program with {words}")
-    return f"{len(tries) + len(closed)} streams that can't be used"
+    return f"{len(tries) + len(closed)} streams that can't be used, each by a script and by a sample"
 
 
 def full_disks(program: str, audit: str, *, is_all: bool) -> str:
@@ -185,5 +188,5 @@ def _small_disks(program: str) -> str:
             faults += outcome.status == 4
             saved = Folder(program, folder.path / "saved")
             with saved:
-                whole.check_next(saved, acknowledged(outcome.shown), what)
+                whole.check_next(saved, outcome.shown, what)
     return f"and {len(sizes)} small disks, {faults} of them too small"

@@ -2,16 +2,21 @@
 
 from __future__ import annotations
 
+import os
 import random
+import re
+import signal
 import subprocess
+import time
 
-from model import Choice, Outcome
+from model import Choice, Outcome, words_of
 from scripts import MOST_SECONDS, Folder
 
-from attacks.rig import expect
+from attacks.faults import CALL, FILES, Tracer
+from attacks.rig import SAMPLE, STREAMS, expect
 
-ROUNDS, STARTED = 40, 6
-STREAMS = {"stdin": subprocess.PIPE, "stdout": subprocess.PIPE, "stderr": subprocess.PIPE}
+ROUNDS, ROUNDS_OF_SAMPLES, STARTED = 40, 10, 6
+LONG_SAMPLE = b"--generate 7 --count 5000\n"
 HELD = "another program is at work in this folder\n"
 
 
@@ -37,7 +42,25 @@ def race(program: str, audit: str) -> str:
                 expect(is_held or is_early or outcome == Outcome(b"sound 0 0\n", "", 0), f"an audit in round {number}: {outcome}")
                 audited += outcome.status == 0
     expect(worked > 0, f"in {ROUNDS} rounds no program worked")
-    return f"{ROUNDS} rounds of {STARTED} programs and 2 audits at one time: {worked} programs and {audited} audits worked"
+    for _ in range(ROUNDS_OF_SAMPLES):
+        _race_samples(program)
+    told = f"{ROUNDS} rounds of {STARTED} programs and 2 audits at one time: {worked} programs and {audited} audits worked"
+    return f"{told}; and {ROUNDS_OF_SAMPLES} of {STARTED} samples"
+
+
+def _race_samples(program: str) -> None:
+    """Starts samples together in a new folder: one is made, and the others are told of its entries, or that it is at work."""
+    with Folder(program) as folder:
+        samples = [b"--generate %d --count 9\n" % seed for seed in range(STARTED)]
+        started = [(it, subprocess.Popen([program, *words_of(it)], cwd=folder.path, **STREAMS)) for it in samples]
+        shown = [(it, *process.communicate(timeout=MOST_SECONDS), process.returncode) for it, process in started]
+        ended = [(it, Outcome(shown, line.decode(), status)) for it, shown, line, status in shown]
+        made = [it for it in ended if it[1].status == 0]
+        expect(len(made) == 1, f"samples that are started together end so: {ended}")
+        difference = folder.difference_of(*made[0], *folder.files())
+        expect(not difference, f"a sample that is started with others: {difference}")
+        allowed = [made[0][1], Outcome(b"", f"tt_archive: {HELD}", 11), folder.archive.run(SAMPLE, Choice([], b""))]
+        expect(all(outcome in allowed for _, outcome in ended), f"samples that are started together end so: {ended}")
 
 
 def _script(number: int, at: int) -> bytes:
@@ -60,3 +83,39 @@ def _check(folder: Folder, ended: list[tuple[bytes, Outcome]], number: int) -> i
         difference = folder.file_difference(folder.journal.read_bytes(), folder.pages.read_bytes())
         expect(not difference, f"round {number}, in which {len(worked)} programs worked: {difference}")
     return len(worked)
+
+
+def refuse_beside(program: str, audit: str) -> str:
+    """Stops a sample amid its work. Who comes then is refused: it opens the journal alone, and reads, writes, pulls and shows nothing.
+    The sample goes on as if nobody had come, and tells a terminal of its work, since it takes more than a second."""
+    others = [(program, b"arrive 1 10 3\nred\n"), (program, SAMPLE), (audit, b"verify\n")]
+    terminal, errors = os.openpty()
+    with Folder(program) as alone, Folder(program) as folder:
+        wanted = alone.run(LONG_SAMPLE)
+        with subprocess.Popen([program, *words_of(LONG_SAMPLE)], cwd=folder.path, stdout=subprocess.PIPE, stderr=errors) as process:
+            try:
+                while len(folder.files()[0]) < 1 << 12:
+                    time.sleep(0.001)
+                process.send_signal(signal.SIGSTOP)
+                stopped, left = time.monotonic(), folder.files()
+                for command, script in others:
+                    outcome = Tracer(command, FILES).run(folder, script=script)
+                    calls = set(CALL.findall((folder.path / "calls").read_text()))
+                    is_held = outcome == Outcome(b"", f"{'tt_verify' if command == audit else 'tt_archive'}: {HELD}", 11)
+                    expect(is_held and folder.pulled == 0 and folder.files() == left, f"{command} beside a sample: {outcome}")
+                    expect(calls <= {"openat", "fcntl", "flock", "close"}, f"{command} beside a sample calls {calls}")
+                time.sleep(max(0, stopped + 1 - time.monotonic()))
+                process.send_signal(signal.SIGCONT)
+                outcome = Outcome(process.communicate(timeout=MOST_SECONDS)[0], "", process.returncode)
+            finally:
+                process.kill()
+        expect(outcome == wanted and folder.files() == alone.files(), f"a sample beside which others came: {outcome}")
+        expect(len(left[0]) < len(folder.files()[0]), "the sample was at its end when others came")
+    os.write(errors, b"$")
+    told, line = b"", rb"\r\x1b\[Ktt_archive: (reading|writing) the (journal|pages), \d+ (bytes|%)"
+    while not told.endswith(b"$"):
+        told += os.read(terminal, 1 << 16)
+    os.close(terminal)
+    os.close(errors)
+    expect(re.fullmatch(rb"(%b)+\r\x1b\[K\$" % line, told), f"a sample of more than a second tells a terminal {told!r}")
+    return f"{len(others)} programs beside a sample that is stopped"

@@ -10,7 +10,7 @@ from dataclasses import dataclass
 from pathlib import Path
 from typing import Callable
 
-from model import Archive, NotArchive, Outcome
+from model import Archive, NotArchive, Outcome, words_of
 from scripts import MOST_SECONDS, Folder, Writer
 
 #: Changes of each kind and questions. No text of it has a line that looks like a reply.
@@ -73,6 +73,8 @@ verify
 batch 2
 delete 1 40
 """
+#: A sample by the greatest seed. One of its words is unknown then, and one has nothing sealed.
+SAMPLE = b"--generate 9999999999999999999 --count 3\n"
 #: What is asked and changed in the run after.
 NEXT_SCRIPT = b"""verify
 show 1 15
@@ -104,6 +106,21 @@ between 10 80 blue or red
 certificate red
 verify
 """
+#: The same behind a sample.
+NEXT_OF_SAMPLE = b"""verify
+show 7 60
+find 150 w1 or w3
+between 0 200 w2 or w4
+certificate w3
+arrive 7 100000 5
+w1 w2
+delete 7 100060
+plan w2 guarantee 1/1
+plan w3 space 2/1 uniform
+find 100000 w2 and not w5
+verify
+"""
+STREAMS = {"stdin": subprocess.PIPE, "stdout": subprocess.PIPE, "stderr": subprocess.PIPE}
 DISK_FAULT = Outcome(b"", "tt_archive: disk fault\n", 4)
 AUDIT_FAULT = Outcome(b"", "tt_verify: disk fault\n", 4)
 NO_LOCKS = Outcome(b"", "tt_archive: this folder's file system has no locks\n", 4)
@@ -170,25 +187,37 @@ class Whole:
 
     def check_cut(self, folder: Folder, outcome: Outcome, allowed: list[Outcome], what: str) -> None:
         """What holds after a run of the script that may have been cut short: what it showed is a front of the replies, its end is one
-        of these, and the next run has each entry that was acknowledged, at most one more, and goes on as the model says."""
+        of these, and the next run has each entry that was acknowledged, few more, and goes on as the model says."""
         expect(self.shown.startswith(outcome.shown), f"{what}: shows {outcome.shown!r}, and not a front of {self.shown!r}")
         ends_so = outcome == self.outcome or any((outcome.status, outcome.line) == (it.status, it.line) for it in allowed)
         expect(ends_so, f"{what}: ends with {outcome.status} and {outcome.line!r}, having shown {outcome.shown!r}")
-        self.check_next(folder, max(self.entries_before, acknowledged(outcome.shown)), what)
+        expect(not words_of(self.script) or folder.pulled == 0, f"{what}: pulls {folder.pulled} bytes")
+        self.check_next(folder, outcome.shown, what)
 
-    def check_next(self, folder: Folder, count: int, what: str) -> None:
-        """The journal has so many of the entries or one more, and the next run goes on as the model says."""
+    def counts(self, shown: bytes) -> tuple[int, int]:
+        """How many entries there are at least and at most where this was shown. (A sample acknowledges all at once, by its lines.)"""
+        if words_of(self.script):
+            return len(self.entries) if shown else self.entries_before, len(self.entries)
+        count = max(self.entries_before, acknowledged(shown))
+        return count, count + 1
+
+    def check_next(self, folder: Folder, shown: bytes, what: str) -> None:
+        """The journal has as many of the entries as it is to have where this was shown, and the next runs go on as the model says."""
+        journal, pages = folder.files()
         try:
-            journal, pages = (it.read_bytes() if it.exists() else b"" for it in (folder.journal, folder.pages))
             folder.archive = Archive.loaded(journal, len(pages))
         except NotArchive as place:
             raise Wrong(f"{what}: the journal is no archive's at {place}") from None
         entries = folder.archive.entries
         expect(entries == self.entries[: len(entries)], f"{what}: the journal has other entries: {[it.hex() for it in entries]}")
-        expect(count <= len(entries) <= count + 1, f"{what}: {count} entries are acknowledged, and the journal has {len(entries)}")
+        least, most = self.counts(shown)
+        expect(least <= len(entries) <= most, f"{what}: {least} to {most} entries are to be there, and the journal has {len(entries)}")
         folder.was_cut = True
-        difference = folder.difference(NEXT_SCRIPT)
-        expect(not difference, f"{what}: in the next run: {difference}")
+        for script in [self.script, NEXT_OF_SAMPLE] if words_of(self.script) else [NEXT_SCRIPT]:
+            difference = folder.difference(script)
+            expect(not difference, f"{what}: in the next run: {difference}")
+            is_left = folder.outcome.status != 10 or folder.files() == [journal, pages]
+            expect(is_left, f"{what}: a sample that is refused changes a file")
 
 
 def nothing(_: Folder) -> None:
@@ -203,7 +232,9 @@ def some(folder: Folder) -> None:
 
 
 #: Archives to begin with, each with a script, that runs are cut short of.
-RUNS: list[tuple[Callable[[Folder], None], bytes]] = [(nothing, SCRIPT), (some, SCRIPT), (some, BATCH_SCRIPT)]
+RUNS: list[tuple[Callable[[Folder], None], bytes]] = [(nothing, SCRIPT), (some, SCRIPT), (some, BATCH_SCRIPT), (nothing, SAMPLE)]
+#: A sample that is refused.
+REFUSED = (some, SAMPLE)
 
 
 def has_tracer() -> bool:

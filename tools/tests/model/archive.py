@@ -14,6 +14,7 @@ from .base import Broken, Differs, NoCommand, NotArchive, Refused
 from .firsts import Sheet, test_opened
 from .journal import BLOCKS, Batch, Change, Mark, Place, Plan, blocks_of, clipped, read_entry, read_journal, spell_journal, sublist
 from .plans import GUARANTEE, SINCE, UNIFORM, Line, Posting, near_postings, stretches, test_segments, test_width, told
+from .samples import PLANNED, sample_script, words_of
 from .shares import MOST_ASKED, test_shares
 from .script import Item, count_of, document_of, factor_of, items, query_behind, time_of, tolerance_of
 from .words import Query, asks_for_any, keys, one_key
@@ -135,7 +136,9 @@ class Archive:
 
     def run(self, script: bytes, choice: Choice) -> Outcome:
         """Carries out a script, up to a reply that the program didn't show, and tells what it is to show. A script that isn't broken
-        brings a plan that was begun to its end."""
+        brings a plan that was begun to its end. (Or a sample, which shows nothing of its replies.)"""
+        if words := words_of(script):
+            return self._generate(int(words[1]), int(words[3]), choice)
         shown, self.asked, self.job = b"", [], None
         try:
             for item in items(script):
@@ -150,6 +153,17 @@ class Archive:
         except Broken as place:
             return Outcome(shown, f"tt_archive: script fault at byte {place}\n", 7)
         return Outcome(shown, "", 0)
+
+    def _generate(self, seed: int, count: int, choice: Choice) -> Outcome:
+        """Carries out a sample's commands where there is no entry yet, and counts what came of them."""
+        if self.entries:
+            return Outcome(b"", f"tt_archive: the archive has {len(self.entries)} entries\n", 10)
+        replies = [self.shown_of(item, choice) for item in items(sample_script(seed, count))]
+        changes, questions = replies[: count + PLANNED], replies[count + PLANNED : -1]
+        refused = sum(it.startswith(b"no ") for it in changes)
+        hits, read = (sum(int(it.split()[at]) for it in questions) for at in (-3, -1))
+        counts = b"generated %d accepted %d refused %d hits %d read %d\n" % (count, len(changes) - refused, refused, hits, read)
+        return Outcome(counts + replies[-1], "", 0)
 
     def shown_of(self, item: Item, choice: Choice) -> bytes:
         """Carries out an item, and tells what the program is to show of it."""
