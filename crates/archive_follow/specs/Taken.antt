@@ -1,0 +1,60 @@
+-- What is said of an archive that takes an entry from another one.
+use Rattle.std.specs.Prelude.{◌≡◌, ◌⊎◌, ◌↔◌, ℕ, ◌+◌, List, [], ◌∷◌, ◌++◌, length, Result, Ok, Err, IfOk, IsOk, IsTrue}
+use Rattle.machine_model.specs.Causes.{Rose}
+use Rattle.machine_model.specs.States.{DiskState}
+use Rattle.journal_entries.specs.Spelling.{spelling, IsEntry}
+use Rattle.journal_entries.specs.declared.entry.Entry.{Entry}
+use Rattle.model_archive.specs.Histories.{History}
+use Rattle.archive_hand.specs.Adding.{IsSpentBut}
+use Rattle.archive_hand.specs.Changing.{KeepsBy, LeadsBy}
+use Rattle.archive_hand.specs.States.{ArchiveState, AreInStepBy, CacheStands, Reaches, StandsFor}
+use Rattle.archive_hand.specs.Stored.{Store, Stocks}
+use Rattle.model_follow.specs.Taking.{SpellsNext}
+use Rattle.archive_follow.specs.declared.error.TakeEntryError.{TakeEntryError}
+use Rattle.archive_follow.specs.declared.error.TakeEntryError.TheVariants as takes
+
+-- the entry was taken or may not come next, and so the archive isn't spent
+abbrev pub IsDone : Result ℕ TakeEntryError → Type 0
+IsDone result = IsOk result ⊎ (result ≡ Err takes.NotNext)
+
+-- After an entry was to be taken, on any disk: `tells` says that the disk tells, and `uncalled` that the disk is as it was.
+pub record AfterTaking (tells uncalled : Type 0) (result : Result ℕ TakeEntryError) (d e : DiskState)
+    (old new : ArchiveState) : Type 0 where
+  -- it failed only where a call of the disk failed
+  pub failed : result ≡ Err takes.Failed → Rose d.faults e.faults
+  -- the disk reaches as far as what the archive may read
+  pub within : Reaches e.reach new
+  -- it is live unless it is spent
+  pub live : IsTrue new.live ↔ IsDone result
+  -- an entry that may not come next calls no disk, and neither does want of memory: all of it is taken before the first call
+  pub same : (result ≡ Err takes.NotNext) ⊎ (result ≡ Err takes.Memory) → uncalled
+  -- unless it is spent, the pages that it keeps go on being what reads give
+  pub cached : tells → CacheStands d old → IsDone result → CacheStands e new
+  -- where it is spent, it has the entries, the texts and the plans that it had; what it tells of words isn't claimed
+  pub spent : (result ≡ Err takes.Memory) ⊎ (result ≡ Err takes.Failed) → IsSpentBut old new
+
+-- What an archive in hand says of an entry that was to be taken, for a history that it stood for, on any disk: it is not the next one exactly where
+-- the bytes spell none that may be taken (but for want of memory), and then the archive stands for what it stood for; at Ok it stands for that and
+-- the entry, and tells how many entries there are.
+pub record TakesBody (history : History) (body : List ℕ) (result : Result ℕ TakeEntryError) (new : ArchiveState) : Type 0 where
+  pub refused : result ≡ Err takes.NotNext → (SpellsNext history body → ⊥) × StandsFor new history
+  pub allowed : IsOk result ⊎ (result ≡ Err takes.Failed) → SpellsNext history body
+  pub stands : IfOk result (λ n. (entry : Entry) × (body ≡ spelling entry) × StandsFor new (history ++ entry ∷ [])
+      × (n ≡ length history + 1))
+
+-- The entry that the bytes spell comes behind what is stored: each live place keeps its bytes, a plan's places hold its sublists, and each image left
+-- since is as before the entry or after it.
+pub record Takes (store next : Store) (body : List ℕ) (old new : DiskState) : Type 0 where
+  pub entry : Entry
+  pub ranges : IsEntry entry
+  pub spelled : body ≡ spelling entry
+  pub next_is : next.history ≡ store.history ++ entry ∷ []
+  pub stocks : Stocks store next
+  pub leads : LeadsBy store next old new
+
+-- The same by what reads give, whatever lies in Pages.
+abbrev pub TakesBy : Store → List ℕ → Result ℕ TakeEntryError → DiskState → DiskState → ArchiveState → Type 0
+TakesBy store body (Ok n) old new archive_now = (next : Store) × Takes store next body old new × AreInStepBy new archive_now next
+TakesBy store body (Err takes.NotNext) old new archive_now = AreInStepBy new archive_now store
+TakesBy store body (Err takes.Memory) old new archive_now = KeepsBy store old new
+TakesBy store body (Err takes.Failed) old new archive_now = KeepsBy store old new ⊎ ((next : Store) × Takes store next body old new)
