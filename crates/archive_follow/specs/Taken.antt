@@ -1,14 +1,23 @@
 -- What is said of an archive that takes an entry from another one.
-use Rattle.std.specs.Prelude.{◌≡◌, ◌⊎◌, ◌↔◌, ℕ, ◌+◌, List, [], ◌∷◌, ◌++◌, length, Result, Ok, Err, IfOk, IsOk, IsTrue}
+use Rattle.std.specs.Prelude.{◌≡◌, ◌⊎◌, ◌↔◌, ℕ, ◌+◌, ◌≤◌, List, [], ◌∷◌, ◌++◌, length, All, Option, Some, None, Result, Ok, Err, IfOk, IfSome, IsOk, IsTrue}
 use Rattle.machine_model.specs.Causes.{Rose}
 use Rattle.machine_model.specs.States.{DiskState}
+use Rattle.base_types.specs.declared.posting.Posting.{Posting}
 use Rattle.journal_entries.specs.Spelling.{spelling, IsEntry}
 use Rattle.journal_entries.specs.declared.entry.Entry.{Entry}
+use Rattle.journal_entries.specs.declared.entry.Entry.TheVariants.{Planned}
+use Rattle.journal_entries.specs.declared.place.Place.{Place}
+use Rattle.journal_entries.specs.declared.plan.PlanEntry.{PlanEntry}
 use Rattle.model_archive.specs.Histories.{History}
+use Rattle.model_archive.specs.Legal.{IsLegalEntry}
+use Rattle.model_archive.specs.Planning.{IsListUpTo}
+use Rattle.model_archive.specs.Plans.{plan_of}
 use Rattle.archive_hand.specs.Adding.{IsSpentBut}
 use Rattle.archive_hand.specs.Changing.{KeepsBy, LeadsBy}
 use Rattle.archive_hand.specs.States.{ArchiveState, AreInStepBy, CacheStands, Reaches, StandsFor}
 use Rattle.archive_hand.specs.Stored.{Store, Stocks}
+use Rattle.archive_hand.specs.declared.error.ChangeError.{ChangeError}
+use Rattle.archive_hand.specs.declared.error.ChangeError.TheVariants as changes
 use Rattle.model_follow.specs.Taking.{SpellsNext}
 use Rattle.archive_follow.specs.declared.error.TakeEntryError.{TakeEntryError}
 use Rattle.archive_follow.specs.declared.error.TakeEntryError.TheVariants as takes
@@ -49,6 +58,7 @@ pub record Takes (store next : Store) (body : List ℕ) (old new : DiskState) : 
   pub ranges : IsEntry entry
   pub spelled : body ≡ spelling entry
   pub next_is : next.history ≡ store.history ++ entry ∷ []
+  pub job_is : next.job ≡ store.job
   pub stocks : Stocks store next
   pub leads : LeadsBy store next old new
 
@@ -58,3 +68,29 @@ TakesBy store body (Ok n) old new archive_now = (next : Store) × Takes store ne
 TakesBy store body (Err takes.NotNext) old new archive_now = AreInStepBy new archive_now store
 TakesBy store body (Err takes.Memory) old new archive_now = KeepsBy store old new
 TakesBy store body (Err takes.Failed) old new archive_now = KeepsBy store old new ⊎ ((next : Store) × Takes store next body old new)
+
+-- ---- parts of the call
+
+-- how a change ends that comes from another archive: one that is refused may not come next
+abbrev pub as_taken : Result ℕ ChangeError → Result ℕ TakeEntryError
+as_taken (Ok n) = Ok n
+as_taken (Err (changes.Refused why)) = Err takes.NotNext
+as_taken (Err changes.Failed) = Err takes.Failed
+as_taken (Err changes.Memory) = Err takes.Memory
+
+-- a place without bytes is at page 0
+abbrev pub IsProper : Place → Type 0
+IsProper place = place.extent.bytes ≡ 0 → place.extent.first ≡ 0
+
+-- A plan may come next but for its places and the journal's room: it is legal, its list is this one, its horizon isn't before that of the word's live
+-- plan, and a place without bytes is at page 0.
+pub record MayBePut (history : History) (plan : PlanEntry) (list : List Posting) : Type 0 where
+  pub legal : IsLegalEntry history (Planned plan)
+  pub list_is : IsListUpTo history plan.word plan.horizon.seconds list
+  pub later : IfSome (plan_of history plan.word) (λ live. live.horizon.seconds ≤ plan.horizon.seconds)
+  pub proper : All IsProper plan.places
+
+-- what is found of a plan: the list of its word up to its horizon, where it may come next but for places and room
+abbrev pub IsFoundOf : History → PlanEntry → Option (List Posting) → Type 0
+IsFoundOf history plan (Some list) = MayBePut history plan list
+IsFoundOf history plan None = (list : List Posting) → MayBePut history plan list → ⊥
