@@ -1,0 +1,5 @@
+mod RoomLemmas
+mod PlacedLemmas
+mod StepLemmas
+mod LeaderLemmas
+mod ExportLemmas

@@ -1,0 +1,145 @@
+-- An export as it goes on, and at its end.
+use Rattle.std.proofs.Common.{◌≡◌, ℕ, ◌+◌, ◌-◌, ◌≤◌, List, [], ◌∷◌, ◌++◌, length, take, All, Some, refl, ap, sym, subst, ◌∙◌, arith, append_assoc}
+use Rattle.std.specs.Prelude.{slice_get}
+use Rattle.std.proofs.lemmas.List.{append-nil, append_cancel_left}
+use Rattle.std.proofs.lemmas.List.Elements.{All-nil, All-cons}
+use Rattle.machine_model.specs.Calls.{OnlyReads}
+use Rattle.machine_model.specs.Moments.{GoesOn}
+use Rattle.machine_model.specs.Pushes.{IsPrefix, OnlyShows}
+use Rattle.machine_model.specs.States.{DiskState, SinkState}
+use Rattle.machine_model.proofs.MomentLemmas.{goes_on_joins, joined}
+use Rattle.archive_hand.specs.Changing.{KeepsHistory}
+use Rattle.journal_entries.specs.Spelling.{spelling}
+use Rattle.journal_packets.specs.Packets.{most_body, packet_bytes}
+use Rattle.journal_packets.specs.Streams.{export, stream}
+use Rattle.plans_kinds.specs.Plans.{IsFitFor}
+use Rattle.model_archive.specs.Histories.{History}
+use Rattle.model_archive.specs.Legal.{EachMayCome}
+use Rattle.model_archive.specs.Stands.{EachStands, Stands, bodies_of}
+use Rattle.model_follow.specs.Laws.{SpellingsHaveRoom}
+use Rattle.run_follow.specs.Exporting.{Exported, Showing, Shows, ShowsPacket}
+use Rattle.run_follow.proofs.BesideLemmas.{reads_show, shows_join}
+use Rattle.run_follow.proofs.PacketLemmas.{export_all, export_front, export_more, none_yet}
+
+-- a packet has room for each entry of a history that loads
+pub all_short : SpellingsHaveRoom → (before h : History) → EachMayCome IsFitFor before h → All (λ (body : List ℕ). length body ≤ most_body) (bodies_of h)
+all_short room before [] each = All-nil (λ (body : List ℕ). length body ≤ most_body)
+all_short room before (e ∷ h) each =
+    All-cons (λ (body : List ℕ). length body ≤ most_body) (spelling e) (bodies_of h) (room IsFitFor before e each.0) (all_short room (before ++ e ∷ []) h each.1)
+
+-- ---- a packet
+
+-- nothing was shown of it, or some
+pub packet_shown : (all : List (List ℕ)) (number : ℕ) (done : Type 0) (body : List ℕ) (output output_now : SinkState) (old mid new : DiskState) → slice_get all (number - 1) ≡ Some body
+    → OnlyReads old mid → old.now.beside ≡ output.shown → OnlyShows mid new output.shown output_now.shown → IsPrefix output_now.shown (output.shown ++ packet_bytes number body)
+    → (done → output_now.shown ≡ output.shown ++ packet_bytes number body) → ShowsPacket all number done output output_now old new
+packet_shown all number done body output output_now old mid new is reads beside shows front whole = record {
+  body = body;
+  body_is = is;
+  shown = shows.grows.0;
+  shown_is = shows.grows.1;
+  front = (
+    front.0,
+    append_cancel_left output.shown (packet_bytes number body) (shows.grows.0 ++ front.0)
+        (front.1 ∙ ap (λ (l : List ℕ). l ++ front.0) shows.grows.1 ∙ append_assoc output.shown shows.grows.0 front.0),
+  );
+  whole = λ well. append_cancel_left output.shown shows.grows.0 (packet_bytes number body) (sym shows.grows.1 ∙ whole well);
+  beside = shows_join old mid new output.shown output.shown output_now.shown (reads_show old mid output.shown reads beside) shows;
+}
+
+-- nothing was shown of it
+pub packet_unshown : (all : List (List ℕ)) (number : ℕ) (done : Type 0) (body : List ℕ) (output output_now : SinkState) (old new : DiskState) → slice_get all (number - 1) ≡ Some body
+    → OnlyReads old new → old.now.beside ≡ output.shown → output_now ≡ output → (done → ⊥) → ShowsPacket all number done output output_now old new
+packet_unshown all number done body output output_now old new is reads beside same never = record {
+  body = body;
+  body_is = is;
+  shown = [];
+  shown_is = ap (λ (s : SinkState). s.shown) same ∙ sym (append-nil output.shown);
+  front = (packet_bytes number body, refl);
+  whole = λ well. absurd (never well);
+  beside = subst (λ (s : SinkState). OnlyShows old new output.shown s.shown) (sym same) (reads_show old new output.shown reads beside);
+}
+
+-- ---- one after another
+
+pub showing_none : (all : List (List ℕ)) (from : ℕ) (output : SinkState) (d : DiskState) → OnlyShows d d output.shown output.shown → Showing all from (from - 1) output output d d
+showing_none all from output d still = record {
+  shown_is = sym (append-nil output.shown) ∙ ap (λ (ps : _). output.shown ++ stream ps) (sym (none_yet from all));
+  beside = still;
+}
+
+pub showing_more : (all : List (List ℕ)) (from place : ℕ) (output mid output_now : SinkState) (old now next : DiskState) → from ≤ place + 1 → Showing all from place output mid old now
+    → (done : Type 0) → done → ShowsPacket all (place + 1) done mid output_now now next → Showing all from (place + 1) output output_now old next
+showing_more all from place output mid output_now old now next begun before done well one =
+    let front = stream (take (place - (from - 1)) (export from all)) in
+    let is : slice_get all place ≡ Some one.body = ap (slice_get all) (omega arith) ∙ one.body_is in
+    record {
+      shown_is = one.shown_is ∙ ap (λ (l : List ℕ). l ++ one.shown) before.shown_is ∙ append_assoc output.shown front one.shown
+          ∙ ap (λ (l : List ℕ). output.shown ++ (front ++ l)) (one.whole well) ∙ ap (λ (l : List ℕ). output.shown ++ l) (sym (export_more from all place one.body begun is));
+      beside = shows_join old now next output.shown mid.shown output_now.shown before.beside one.beside;
+    }
+
+-- it ends within a packet
+pub shows_part : (all : List (List ℕ)) (from place : ℕ) (output mid output_now : SinkState) (old now next : DiskState) → from ≤ place + 1 → Showing all from place output mid old now
+    → (done other : Type 0) → (done → ⊥) → ShowsPacket all (place + 1) other mid output_now now next → Shows all from done output output_now old next
+shows_part all from place output mid output_now old now next begun before done other never one =
+    let front = stream (take (place - (from - 1)) (export from all)) in
+    let is : slice_get all place ≡ Some one.body = ap (slice_get all) (omega arith) ∙ one.body_is in
+    record {
+      shown = front ++ one.shown;
+      shown_is = one.shown_is ∙ ap (λ (l : List ℕ). l ++ one.shown) before.shown_is ∙ append_assoc output.shown front one.shown;
+      front = export_front from all place one.body one.shown begun is one.front;
+      whole = λ well. absurd (never well);
+      beside = shows_join old now next output.shown mid.shown output_now.shown before.beside one.beside;
+    }
+
+-- and behind the last one
+pub shows_all : (all : List (List ℕ)) (from place : ℕ) (done : Type 0) (output output_now : SinkState) (old new : DiskState) → length all ≤ place → Showing all from place output output_now old new
+    → Shows all from done output output_now old new
+shows_all all from place done output output_now old new past before =
+    let all_of = export_all from all place past in
+    record {
+      shown = stream (export from all);
+      shown_is = before.shown_is ∙ ap (λ (ps : _). output.shown ++ stream ps) all_of;
+      front = ([], sym (append-nil (stream (export from all))));
+      whole = λ well. refl;
+      beside = before.beside;
+    }
+
+-- ---- a whole export
+
+-- nothing was shown, since the archive wasn't loaded
+pub not_exported : (h : History) (from : ℕ) (done : Type 0) (output output_now : SinkState) (old new : DiskState) → (done → ⊥) → output_now ≡ output → GoesOn old new
+    → (EachStands old h → KeepsHistory h old new) → Exported h from done output output_now old new
+not_exported h from done output output_now old new never same on keeps = record {
+  shown = [];
+  shown_is = ap (λ (s : SinkState). s.shown) same ∙ sym (append-nil output.shown);
+  front = (stream (export from (bodies_of h)), refl);
+  whole = λ well. absurd (never well);
+  goes_on = on;
+  images = λ each image beside left. ((keeps each).images image beside left).0;
+}
+
+-- it was loaded, and then only read and shown
+pub is_exported : (h : History) (from : ℕ) (done : Type 0) (output output_now : SinkState) (old loaded new : DiskState) → GoesOn old loaded → (EachStands old h → KeepsHistory h old loaded)
+    → EachStands loaded h → Shows (bodies_of h) from done output output_now loaded new → Exported h from done output output_now old new
+is_exported h from done output output_now old loaded new on keeps each shows = record {
+  shown = shows.shown;
+  shown_is = shows.shown_is;
+  front = shows.front;
+  whole = shows.whole;
+  goes_on = goes_on_joins on shows.beside.goes_on;
+  images = λ start. joined (λ image beside. Stands h image) on (λ image beside left. ((keeps start).images image beside left).0) shows.beside.goes_on
+      (λ image beside left. each image (shows.beside.since image beside left).0);
+}
+
+-- the same, where less is said to be done
+pub exported_as : (h : History) (from : ℕ) (done other : Type 0) (output output_now : SinkState) (old new : DiskState) → (other → done) → Exported h from done output output_now old new → Exported h from other output output_now old new
+exported_as h from done other output output_now old new so e = record {
+  shown = e.shown;
+  shown_is = e.shown_is;
+  front = e.front;
+  whole = λ well. e.whole (so well);
+  goes_on = e.goes_on;
+  images = e.images;
+}
