@@ -8,7 +8,8 @@ use Rattle.journal_packets.specs.Streams.{export, stream}
 use Rattle.model_archive.specs.Histories.{History}
 use Rattle.model_archive.specs.Stands.{EachStands, Stands, bodies_of}
 
--- A front of the export of a history is shown, and all of it where this holds, that it is done. Each image left since stands for the history.
+-- A front of the export of a history is shown, and all of it where this holds, that it is done. Each image left since stands for the
+-- history.
 pub record Exported (history : History) (from : ℕ) (done : Type 0) (output output_now : SinkState) (old new : DiskState) : Type 0 where
   pub shown : List ℕ
   pub shown_is : output_now.shown ≡ output.shown ++ shown
@@ -19,7 +20,8 @@ pub record Exported (history : History) (from : ℕ) (done : Type 0) (output out
 
 -- ---- while it goes on
 
--- Bodies of a journal were shown as packets, and nothing was written: a front of the export of these bodies is shown, and all of it where it is done.
+-- Bodies of a journal were shown as packets, and nothing was written: a front of the export of these bodies is shown, and all of it where
+-- it is done.
 pub record Shows (all : List (List ℕ)) (from : ℕ) (done : Type 0) (output output_now : SinkState) (old new : DiskState) : Type 0 where
   pub shown : List ℕ
   pub shown_is : output_now.shown ≡ output.shown ++ shown
