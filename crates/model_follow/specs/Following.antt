@@ -24,8 +24,9 @@ note_text (Took number) = codes "took " ++ decimal number ++ 10 ∷ []
 abbrev pub length_text : ℕ → List ℕ
 length_text count = codes "end " ++ decimal count ++ 10 ∷ []
 
--- The step over a packet, from a history: the packet of an entry that is there changes nothing; one of an entry that may be taken next adds it.
--- There is no step for any other packet.
+-- The step over a packet, from a history: the packet of an entry that is there changes nothing; one of an entry that may be taken next
+-- adds it. There is no step for any other packet. (The state is a history alone: nothing is asked of an archive that follows another one,
+-- and what it takes are whole entries, so it never has a plan that is being written.)
 abbrev pub Follows : History → Framed → Note → History → Type 0
 Follows old p (Had number) new = (number ≡ p.number) × IsPacketOf (bodies_of old) p × (new ≡ old)
 Follows old p (Took number) new = (number ≡ p.number) × (number ≡ length old + 1)

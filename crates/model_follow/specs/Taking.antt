@@ -1,5 +1,5 @@
 -- Which entries an archive may take from another one.
-use Rattle.std.specs.Prelude.{◌≡◌, ℕ, ◌≤◌, List, [], ◌∷◌, ◌++◌, IfSome}
+use Rattle.std.specs.Prelude.{◌≡◌, ℕ, ◌≤◌, List, [], ◌∷◌, ◌++◌, Option, Some, None, IfSome}
 use Rattle.std.specs.List.{AllZip}
 use Rattle.base_types.specs.Limits.{limit_of}
 use Rattle.base_types.specs.declared.posting.Posting.{Posting}
@@ -12,12 +12,13 @@ use Rattle.journal_entries.specs.declared.plan.PlanEntry.{PlanEntry}
 use Rattle.pages_sublists.specs.Preparing.{IsFor, spellings}
 use Rattle.pages_sublists.specs.Segments.{seconds}
 use Rattle.model_archive.specs.Histories.{History, end_of}
-use Rattle.model_archive.specs.Legal.{IsLegalEntry}
+use Rattle.model_archive.specs.Legal.{IsLegalEntry, MayBeStored}
 use Rattle.model_archive.specs.Planning.{IsListUpTo}
 use Rattle.model_archive.specs.Plans.{extents_of, live_extents, plan_of}
+use Rattle.model_archive.specs.Worlds.{Job, World}
 
--- A plan's own places can be taken after a history: each is for its segment's sublist (and without bytes it is at page 0), no two of them share a
--- page, nor does one with a live place; and the plan's horizon isn't earlier than that of the word's live plan.
+-- A plan's own places can be taken after a history: each is for its segment's sublist (and without bytes it is at page 0), no two of them
+-- share a page, nor does one with a live place; and the plan's horizon isn't earlier than that of the word's live plan.
 pub record IsPlacedApart (before : History) (plan : PlanEntry) : Type 0 where
   pub list : List Posting
   pub list_is : IsListUpTo before plan.word plan.horizon.seconds list
@@ -48,3 +49,17 @@ EachMayBeTaken before (entry ∷ entries) = MayBeTaken before entry × EachMayBe
 -- A history can be followed from nothing.
 abbrev pub CanBeFollowed : History → Type 0
 CanBeFollowed history = EachMayBeTaken [] history
+
+-- ---- an archive that is followed
+
+-- The places of a plan that is being written can be taken after a history.
+abbrev pub IfJobPlaced : History → Option Job → Type 0
+IfJobPlaced history None = Unit {0}
+IfJobPlaced history (Some job) = IsPlacedApart history job.plan
+
+-- A state of the abstract archive whose history can be followed; where a plan is being written, its entry may be taken behind that, if
+-- the journal has room, which is asked when it is stored.
+pub record KeepsUp (world : World) : Type 0 where
+  pub history : CanBeFollowed world.history
+  pub stored : MayBeStored world.history world.job
+  pub placed : IfJobPlaced world.history world.job

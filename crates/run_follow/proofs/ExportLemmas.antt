@@ -4,11 +4,10 @@ use Rattle.std.specs.Prelude.{slice_get}
 use Rattle.std.proofs.lemmas.List.{append-nil, append_cancel_left}
 use Rattle.std.proofs.lemmas.List.Elements.{All-nil, All-cons}
 use Rattle.machine_model.specs.Calls.{OnlyReads}
-use Rattle.machine_model.specs.Moments.{GoesOn}
+use Rattle.machine_model.specs.Moments.{GoesOn, LeavesOnly}
 use Rattle.machine_model.specs.Pushes.{IsPrefix, OnlyShows}
 use Rattle.machine_model.specs.States.{DiskState, SinkState}
 use Rattle.machine_model.proofs.MomentLemmas.{goes_on_joins, joined}
-use Rattle.archive_hand.specs.Changing.{KeepsHistory}
 use Rattle.journal_entries.specs.Spelling.{spelling}
 use Rattle.journal_packets.specs.Packets.{most_body, packet_bytes}
 use Rattle.journal_packets.specs.Streams.{export, stream}
@@ -17,7 +16,7 @@ use Rattle.model_archive.specs.Histories.{History}
 use Rattle.model_archive.specs.Legal.{EachMayCome}
 use Rattle.model_archive.specs.Stands.{EachStands, Stands, bodies_of}
 use Rattle.model_follow.specs.Laws.{SpellingsHaveRoom}
-use Rattle.run_follow.specs.Exporting.{Exported, Showing, Shows, ShowsPacket}
+use Rattle.run_follow.specs.Exporting.{Exported, Shows, ShowsPacket}
 use Rattle.run_follow.proofs.BesideLemmas.{reads_show, shows_join}
 use Rattle.run_follow.proofs.PacketLemmas.{export_all, export_front, export_more, none_yet}
 
@@ -61,6 +60,11 @@ packet_unshown all number done body output output_now old new is reads beside sa
 }
 
 -- ---- one after another
+
+-- Those before a place were shown, from the one of this number on.
+pub record Showing (all : List (List ℕ)) (from place : ℕ) (output output_now : SinkState) (old now : DiskState) : Type 0 where
+  pub shown_is : output_now.shown ≡ output.shown ++ stream (take (place - (from - 1)) (export from all))
+  pub beside : OnlyShows old now output.shown output_now.shown
 
 pub showing_none : (all : List (List ℕ)) (from : ℕ) (output : SinkState) (d : DiskState) → OnlyShows d d output.shown output.shown → Showing all from (from - 1) output output d d
 showing_none all from output d still = record {
@@ -110,18 +114,18 @@ shows_all all from place done output output_now old new past before =
 
 -- nothing was shown, since the archive wasn't loaded
 pub not_exported : (h : History) (from : ℕ) (done : Type 0) (output output_now : SinkState) (old new : DiskState) → (done → ⊥) → output_now ≡ output → GoesOn old new
-    → (EachStands old h → KeepsHistory h old new) → Exported h from done output output_now old new
+    → (EachStands old h → LeavesOnly old new (λ image beside. Stands h image)) → Exported h from done output output_now old new
 not_exported h from done output output_now old new never same on keeps = record {
   shown = [];
   shown_is = ap (λ (s : SinkState). s.shown) same ∙ sym (append-nil output.shown);
   front = (stream (export from (bodies_of h)), refl);
   whole = λ well. absurd (never well);
   goes_on = on;
-  images = λ each image beside left. ((keeps each).images image beside left).0;
+  images = keeps;
 }
 
 -- it was loaded, and then only read and shown
-pub is_exported : (h : History) (from : ℕ) (done : Type 0) (output output_now : SinkState) (old loaded new : DiskState) → GoesOn old loaded → (EachStands old h → KeepsHistory h old loaded)
+pub is_exported : (h : History) (from : ℕ) (done : Type 0) (output output_now : SinkState) (old loaded new : DiskState) → GoesOn old loaded → (EachStands old h → LeavesOnly old loaded (λ image beside. Stands h image))
     → EachStands loaded h → Shows (bodies_of h) from done output output_now loaded new → Exported h from done output output_now old new
 is_exported h from done output output_now old loaded new on keeps each shows = record {
   shown = shows.shown;
@@ -129,7 +133,7 @@ is_exported h from done output output_now old loaded new on keeps each shows = r
   front = shows.front;
   whole = shows.whole;
   goes_on = goes_on_joins on shows.beside.goes_on;
-  images = λ start. joined (λ image beside. Stands h image) on (λ image beside left. ((keeps start).images image beside left).0) shows.beside.goes_on
+  images = λ start. joined (λ image beside. Stands h image) on (keeps start) shows.beside.goes_on
       (λ image beside left. each image (shows.beside.since image beside left).0);
 }
 

@@ -1,8 +1,6 @@
--- Why a run ends early, by why a call of it does.
+-- Why not all entries are shown, by why a call fails.
 use Rattle.journal_gates.specs.declared.error.JournalError.{JournalError}
 use Rattle.journal_gates.specs.declared.error.JournalError.TheVariants as journals
-use Rattle.archive_entries.specs.declared.error.LoadError.{LoadError}
-use Rattle.archive_entries.specs.declared.error.LoadError.TheVariants as loads
 use Rattle.run_follow.specs.declared.error.ExportError.{ExportError}
 use Rattle.run_follow.specs.declared.error.ExportError.TheVariants.{Disk, NotArchive, Memory}
 
@@ -10,8 +8,3 @@ abbrev pub export_error_of : JournalError → ExportError
 export_error_of journals.Failed = Disk
 export_error_of (journals.NotJournal at) = NotArchive at
 export_error_of journals.Memory = Memory
-
-abbrev pub export_error_of_load : LoadError → ExportError
-export_error_of_load loads.Failed = Disk
-export_error_of_load (loads.NotArchive at) = NotArchive at
-export_error_of_load loads.Memory = Memory

@@ -1,9 +1,8 @@
-//! Why a run ends early.
+//! Why not all entries are shown.
 ghost use Rattle.std.specs.Prelude.{◌≡◌};
 ghost use Rattle.run_follow.specs.declared.error.ExportError.{ExportError};
-ghost use Rattle.run_follow.specs.Causes.{export_error_of, export_error_of_load};
+ghost use Rattle.run_follow.specs.Causes.{export_error_of};
 
-use archive_hand::LoadError;
 use journal_gates::JournalError;
 use std::alloc::AllocError;
 
@@ -14,7 +13,8 @@ pub enum ExportError {
     Disk,
     /// The output couldn't be written.
     Sink,
-    /// The journal is no archive's, which shows at that place.
+    /// The journal is no archive's, which shows at that place: reads give another journal than was loaded, or an
+    /// entry that is too long for a packet.
     NotArchive {
         /// The place in the journal, in bytes.
         at: u64,
@@ -39,18 +39,6 @@ impl From<JournalError> for ExportError {
             JournalError::Failed => ExportError::Disk,
             JournalError::NotJournal { at } => ExportError::NotArchive { at },
             JournalError::Memory => ExportError::Memory,
-        }
-    }
-}
-
-impl From<LoadError> for ExportError {
-    ghost from_gives = { λ why e. e ≡ export_error_of_load why };
-
-    fn from(why: LoadError) -> ExportError {
-        match why {
-            LoadError::Failed => ExportError::Disk,
-            LoadError::NotArchive { at } => ExportError::NotArchive { at },
-            LoadError::Memory => ExportError::Memory,
         }
     }
 }

@@ -1,51 +1,50 @@
 //! The entries of an archive, shown as packets.
-ghost use Rattle.std.specs.Prelude.{◌≡◌, ◌⊎◌, ◌≤◌, ℕ, List, length, All, OnOk, IsErrOf, IsOk};
-ghost use Rattle.machine_model.specs.Calls.{Syncs};
+ghost use Rattle.std.specs.Prelude.{◌≡◌, ◌≤◌, ℕ, List, length, All, OnOk, IsErrOf, IsOk};
 ghost use Rattle.machine_model.specs.Causes.{Rose};
 ghost use Rattle.journal_bodies.specs.Numbered.{AreIn};
 ghost use Rattle.journal_packets.specs.Packets.{most_body};
 ghost use Rattle.model_archive.specs.Histories.{History};
-ghost use Rattle.model_archive.specs.Stands.{IsNotArchive, Stands};
-ghost use Rattle.run_follow.specs.Exporting.{Exported, Shows, ShowsPacket};
+ghost use Rattle.model_archive.specs.Stands.{bodies_of};
+ghost use Rattle.run_follow.specs.Exporting.{IsJournalOf, Shows, ShowsPacket};
 
 use crate::error::ExportError;
-use archive_hand::Archive;
 use archive_replies::show;
 use journal_bodies::NumberedBodies;
+use journal_gates::Journal;
 use journal_packets::{MOST_BODY_BYTES, spell};
 use machine_model::Machine;
 use model_follow::what_runs_make_can_be_followed;
 use std::alloc::Global;
 
-/// Loads the archive of the machine's disk, and shows its entries as packets, from the one of a number on.
-/// It pulls nothing, and writes no more than a load does.
+/// Shows the entries of a loaded journal as packets, from the one of a number on; none where that is above the
+/// number of entries. It pulls nothing and writes nothing.
 ///
-/// `NotArchive`: the journal is no archive's, which shows at that place. `Disk`: a call of the disk failed.
-/// `Sink`: the output couldn't be written. `Memory`: an allocation failed.
-/// Costs what a load does; a second reading of the journal's gates, and one of the bodies that are shown.
-pub fn export<M: Machine>(alloc: Global, machine: &mut M, from: u64) -> Result<(), ExportError>
-    requires { 1 ≤ from }
+/// `NotArchive`: reads give another journal than the loaded one, or an entry that no packet has room for; never
+/// on a disk that keeps what it has. `Disk`: a read failed. `Sink`: the output couldn't be written.
+/// `Memory`: an allocation failed.
+/// Costs a second reading of the journal's gates, and one of the bodies that are shown; the memory of a head
+/// for each entry, and of the longest packet.
+pub fn export<M: Machine>(
+    alloc: Global,
+    machine: &mut M,
+    journal: &Journal,
+    from: u64,
+) -> Result<(), ExportError>
+    requires some { 1 ≤ from }
+    requires reached { journal.now.end ≤ (M.disk machine.old).reach.journal }
     ensures source { M.source machine.new ≡ M.source machine.old }
+    ensures holds { (M.disk machine.new).holds ≡ (M.disk machine.old).holds }
+    ensures later { (M.disk machine.old).faults ≤ (M.disk machine.new).faults }
     ensures disk_fault { IsErrOf result ExportError.Disk → Rose (M.disk machine.old).faults (M.disk machine.new).faults }
     ensures sink_fault { IsErrOf result ExportError.Sink → Rose (M.sink machine.old).faults (M.sink machine.new).faults }
-    // The journal is refused exactly where the bytes are no archive's, unless the disk failed or memory ran out first, and is left as it is.
-    ensures not_archive { M.disk_tells → (at : ℕ) → IsErrOf result (ExportError.NotArchive at)
-        → IsNotArchive (M.disk machine.old).holds at }
-    ensures refused { M.disk_tells → (at : ℕ) → IsNotArchive (M.disk machine.old).holds at →
-        IsErrOf result (ExportError.NotArchive at) ⊎ (IsErrOf result ExportError.Disk ⊎ IsErrOf result ExportError.Memory) }
-    ensures left_alone { M.disk_tells → (at : ℕ) → IsNotArchive (M.disk machine.old).holds at →
-        (M.sink machine.new ≡ M.sink machine.old) × Syncs (M.disk machine.old) (M.disk machine.new) }
-    // Where the bytes stand for a history, what is shown is of its export, and each image left at any moment stands for it.
-    ensures exported { M.sink_tells → M.disk_tells → (h : History) → Stands h (M.disk machine.old).holds →
-        Exported h from (IsOk result) (M.sink machine.old) (M.sink machine.new) (M.disk machine.old) (M.disk machine.new) }
-    // Where nothing is wrong, all is shown, unless memory runs out.
-    ensures complete { M.disk_tells → (h : History) → Stands h (M.disk machine.old).holds →
-        (Rose (M.disk machine.old).faults (M.disk machine.new).faults → ⊥) →
-        (Rose (M.sink machine.old).faults (M.sink machine.new).faults → ⊥) → IsOk result ⊎ IsErrOf result ExportError.Memory }
+    // Where the journal is that of a history which a load accepts, it isn't refused, and what is shown is a front of the history's export.
+    ensures fair { M.disk_tells → (h : History) → IsJournalOf h (M.disk machine.old).holds.journal journal.now.end
+        → (at : ℕ) → IsErrOf result (ExportError.NotArchive at) → ⊥ }
+    ensures shows { M.sink_tells → M.disk_tells → (h : History) → IsJournalOf h (M.disk machine.old).holds.journal journal.now.end →
+        Shows (bodies_of h) from (IsOk result) (M.sink machine.old) (M.sink machine.new) (M.disk machine.old) (M.disk machine.new) }
 {
-    let archive = Archive::load(alloc, machine)?;
     what_runs_make_can_be_followed();
-    let mut bodies = NumberedBodies::of(alloc, machine, archive.journal())?;
+    let mut bodies = NumberedBodies::of(alloc, machine, journal)?;
     show_from(alloc, machine, &mut bodies, from)
 }
 
@@ -59,6 +58,7 @@ fn show_from<M: Machine>(
     requires some { 1 ≤ from }
     requires reached { bodies.old.window.end ≤ (M.disk machine.old).reach.journal }
     ensures source { M.source machine.new ≡ M.source machine.old }
+    ensures holds { (M.disk machine.new).holds ≡ (M.disk machine.old).holds }
     ensures later { (M.disk machine.old).faults ≤ (M.disk machine.new).faults }
     ensures disk_fault { IsErrOf result ExportError.Disk → Rose (M.disk machine.old).faults (M.disk machine.new).faults }
     ensures sink_fault { IsErrOf result ExportError.Sink → Rose (M.sink machine.old).faults (M.sink machine.new).faults }
@@ -89,7 +89,7 @@ fn show_packet<M: Machine>(
     ensures sink_later { (M.sink machine.old).faults ≤ (M.sink machine.new).faults }
     ensures disk_fault { IsErrOf result ExportError.Disk → Rose (M.disk machine.old).faults (M.disk machine.new).faults }
     ensures sink_fault { IsErrOf result ExportError.Sink → Rose (M.sink machine.old).faults (M.sink machine.new).faults }
-    ensures reached { bodies.new.window.end ≤ (M.disk machine.new).reach.journal }
+    ensures reaches { bodies.new.window.end ≤ (M.disk machine.new).reach.journal }
     ensures heads { bodies.new.heads ≡ bodies.old.heads }
     ensures holds { (M.disk machine.new).holds ≡ (M.disk machine.old).holds }
     ensures are { M.disk_tells → (all : List (List ℕ)) → AreIn (M.disk machine.old).holds.journal all bodies.old

@@ -8,6 +8,7 @@ ghost use Rattle.run_follow.specs.Exporting.{Exported};
 ghost use Rattle.run_script.specs.Statuses.{EndsExport};
 
 use crate::status::Status;
+use archive_hand::Archive;
 use machine_model::Machine;
 use run_follow::export;
 use run_words::FirstEntry;
@@ -32,7 +33,11 @@ pub(crate) fn run_export<M: Machine>(alloc: Global, machine: &mut M, first: Firs
         (Rose (M.sink machine.old).faults (M.sink machine.new).faults → ⊥) →
         (result ≡ Status.Done) ⊎ (result ≡ Status.Memory) }
 {
-    match export(alloc, machine, first.number) {
+    let archive = match Archive::load(alloc, machine) {
+        Ok(archive) => archive,
+        Err(error) => return Status::from(error),
+    };
+    match export(alloc, machine, archive.journal(), first.number) {
         Ok(()) => Status::Done,
         Err(error) => Status::from(error),
     }
