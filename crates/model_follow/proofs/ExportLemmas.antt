@@ -9,7 +9,6 @@ use Rattle.journal_entries.specs.declared.entry.Entry.{Entry}
 use Rattle.journal_packets.specs.Packets.{Framed, IsFramed, most_body}
 use Rattle.journal_packets.specs.Streams.{ExportsAreStreams, export, numbered}
 use Rattle.model_archive.specs.Histories.{History, end_of}
-use Rattle.plans_kinds.specs.Plans.{IsGoodPlan}
 use Rattle.model_archive.specs.Runs.{Outcome, IsRun}
 use Rattle.model_archive.specs.Standing.{last_state}
 use Rattle.model_archive.specs.Stands.{bodies_of}
@@ -23,7 +22,7 @@ use Rattle.model_follow.proofs.LeaderLemmas.{followed_middle}
 all_short : SpellingsHaveRoom → (before h : History) → EachMayBeTaken before h → All (λ (body : List ℕ). length body ≤ most_body) (bodies_of h)
 all_short room before [] each = All-nil (λ (body : List ℕ). length body ≤ most_body)
 all_short room before (e ∷ h) each =
-    All-cons (λ (body : List ℕ). length body ≤ most_body) (spelling e) (bodies_of h) (room IsGoodPlan before e each.0.legal) (all_short room (before ++ e ∷ []) h each.1)
+    All-cons (λ (body : List ℕ). length body ≤ most_body) (spelling e) (bodies_of h) (room before e each.0.legal.ranges each.0.legal.allowed) (all_short room (before ++ e ∷ []) h each.1)
 
 few_after : (before h : History) → EachMayBeTaken before h → end_of before ≤ 2 ^ 40 → end_of (before ++ h) ≤ 2 ^ 40
 few_after before [] each few = let E : History → Type 0 = λ g. end_of g ≤ 2 ^ 40 in subst E (sym (append-nil before)) few
@@ -96,7 +95,7 @@ leads leader history before (e ∷ rest) n room can on split long is = elim (cas
     proper = record {
       counted = omega (arith, is);
       numbered = omega (arith, is, few leader can, ap (λ (h : History). length h) split, length-append before (e ∷ rest));
-      short = room IsGoodPlan before e may.legal;
+      short = room before e may.legal.ranges may.legal.allowed;
     }
 
     again : leader ≡ (before ++ e ∷ []) ++ rest

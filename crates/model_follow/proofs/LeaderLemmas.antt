@@ -14,6 +14,7 @@ use Rattle.model_archive.specs.Histories.{History}
 use Rattle.model_archive.specs.Runs.{Outcome, state_after}
 use Rattle.model_archive.specs.Standing.{last_state}
 use Rattle.model_archive.specs.Stands.{bodies_of}
+use Rattle.model_archive.proofs.RunLemmas.{state_after_all}
 use Rattle.model_follow.specs.Taking.{CanBeFollowed, EachMayBeTaken, MayBeTaken}
 use Rattle.model_follow.specs.Following.{BeginWith, CannotBeTaken, DiffersAt, Follows, Note, Had, Took}
 use Rattle.model_follow.specs.Laws.{AreOf, FollowersOfALeader, FollowersStayPrefixes, GoesOnFrom}
@@ -83,11 +84,6 @@ stay_prefixes leader history (p ∷ packets) (o ∷ outcomes) can on are run (su
     (All-tail IsFramed p packets are.0, All-tail (IsPacketOf (bodies_of leader)) p packets are.1) run.1 j (omega (arith, l))
 stay_prefixes leader history [] (o ∷ outcomes) can on are run (suc j) l = absurd run
 stay_prefixes leader history (p ∷ packets) [] can on are run (suc j) l = absurd run
-
--- after all outcomes
-last_is : {S R : Type 0} (state : S) (outcomes : List (Outcome R S)) → state_after state outcomes (length outcomes) ≡ last_state state outcomes
-last_is state [] = refl
-last_is state (o ∷ outcomes) = last_is o.next outcomes
 
 -- ---- the packets of the bytes pulled are the leader's, and what is left is a front of more of them
 
@@ -161,7 +157,7 @@ of_a_leader leader history carried behind rest to_come outcomes can on proper ru
     let left : All (IsPacketOf bodies) behind = back_all (IsPacketOf bodies) carried behind of.are in
     let prefixes : (j : ℕ) → j ≤ length outcomes → GoesOnFrom (state_after history outcomes j) leader = stay_prefixes leader history carried outcomes can on mine run in
     let last : History = last_state history outcomes in
-    let front : GoesOnFrom last leader = subst (λ (h : History). GoesOnFrom h leader) (last_is history outcomes) (prefixes (length outcomes) (omega arith)) in (
+    let front : GoesOnFrom last leader = subst (λ (h : History). GoesOnFrom h leader) (state_after_all history outcomes) (prefixes (length outcomes) (omega arith)) in (
       prefixes,
       (λ place kept got begins.
           let one = head_of (IsPacketOf bodies) (DiffersAt last place kept got) behind left begins in

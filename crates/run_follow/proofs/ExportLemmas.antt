@@ -24,7 +24,7 @@ use Rattle.run_follow.proofs.PacketLemmas.{export_all, export_front, export_more
 pub all_short : SpellingsHaveRoom → (before h : History) → EachMayCome IsFitFor before h → All (λ (body : List ℕ). length body ≤ most_body) (bodies_of h)
 all_short room before [] each = All-nil (λ (body : List ℕ). length body ≤ most_body)
 all_short room before (e ∷ h) each =
-    All-cons (λ (body : List ℕ). length body ≤ most_body) (spelling e) (bodies_of h) (room IsFitFor before e each.0) (all_short room (before ++ e ∷ []) h each.1)
+    All-cons (λ (body : List ℕ). length body ≤ most_body) (spelling e) (bodies_of h) (room before e each.0.ranges each.0.allowed) (all_short room (before ++ e ∷ []) h each.1)
 
 -- ---- a packet
 
