@@ -1,5 +1,5 @@
 -- A packet is one of the cases, and only one.
-use Rattle.std.proofs.Common.{◌≡◌, ◌⊎◌, ℕ, zero, suc, ◌+◌, ◌-◌, ◌<◌, ◌≤◌, List, [], ◌∷◌, ◌++◌, length, map, take, Option, Some, None, inl, inr, refl, ap, sym, subst, ◌∙◌, arith}
+use Rattle.std.proofs.Common.{◌≡◌, ◌⊎◌, ℕ, zero, suc, ◌+◌, ◌-◌, ◌<◌, ◌≤◌, List, [], ◌∷◌, ◌++◌, length, take, Option, Some, None, inl, inr, refl, ap, sym, subst, ◌∙◌, arith}
 use Rattle.std.specs.Prelude.{slice_get}
 use Rattle.std.proofs.lemmas.Bool.{cases_lt}
 use Rattle.std.proofs.lemmas.List.{length-map}
@@ -8,11 +8,11 @@ use Rattle.journal_entries.specs.Spelling.{spelling}
 use Rattle.journal_entries.specs.declared.entry.Entry.{Entry}
 use Rattle.journal_entries.proofs.EntryLemmas.{one_entry}
 use Rattle.journal_packets.specs.Cases.{DifferAt}
-use Rattle.journal_packets.specs.Packets.{Framed, IsFramed}
+use Rattle.journal_packets.specs.Packets.{Framed}
 use Rattle.journal_packets.specs.Streams.{IsPacketOf}
 use Rattle.model_archive.specs.Histories.{History}
 use Rattle.model_archive.specs.Stands.{bodies_of}
-use Rattle.model_follow.specs.Following.{CannotBeTaken, DiffersAt, Follows, IsBeyond, Note, Had, Took}
+use Rattle.model_follow.specs.Following.{DiffersAt, Had, Took}
 use Rattle.model_follow.specs.Laws.{EndsAreApart, PacketsHaveCases, StepsAreNoEnds, StepsAreOne}
 
 -- ---- lists of bytes that differ

@@ -69,7 +69,7 @@ taken_next h plan p taken =
     let T : List StoredPlan → Type 0 = λ live. IsTaken (all_extents live) p in
     let E : List Extent → Type 0 = λ es. IsTaken es p in
     let all : IsTaken (all_extents kept ++ all_extents (new ∷ [])) p =
-        subst E (flat_map-append (λ (stored : StoredPlan). extents_of stored.plan) kept (new ∷ [])) (subst T (live_plans-push h (Planned plan)) taken) in
+    subst E (flat_map-append (λ (stored : StoredPlan). extents_of stored.plan) kept (new ∷ [])) (subst T (live_plans-push h (Planned plan)) taken) in
     elim (taken_parts (all_extents kept) (all_extents (new ∷ [])) p all) [
       | inl old ↦ inr (kept_taken keep (live_plans h) p old)
       | inr own ↦ inl (subst E (append-nil (extents_of plan)) own)

@@ -11,7 +11,7 @@ use Rattle.journal_entries.proofs.EntryLemmas.{one_entry}
 use Rattle.journal_entries.specs.Spelling.{spelling}
 use Rattle.journal_entries.specs.declared.entry.Entry.{Entry}
 use Rattle.model_archive.specs.Histories.{History}
-use Rattle.model_archive.specs.Runs.{Outcome, state_after}
+use Rattle.model_archive.specs.Runs.{state_after}
 use Rattle.model_archive.specs.Standing.{last_state}
 use Rattle.model_archive.specs.Stands.{bodies_of}
 use Rattle.model_archive.proofs.RunLemmas.{state_after_all}
@@ -51,13 +51,9 @@ pub followed_middle : (history : History) (entry : Entry) (others : History) →
 followed_middle history entry others can = middle [] history entry others can
 
 -- the leader's next entry behind a history, by a packet of it
-next_in : (leader history : History) (p : Framed) → CanBeFollowed leader → (on : GoesOnFrom history leader) → IsPacketOf (bodies_of leader) p → p.number ≡ length history + 1
+next_by : (leader history : History) (p : Framed) → CanBeFollowed leader → (on : GoesOnFrom history leader) → HasNext history on.0 p.body
     → (entry : Entry) × (others : History) × (leader ≡ (history ++ entry ∷ []) ++ others) × (spelling entry ≡ p.body) × MayBeTaken history entry
-next_in leader history p can on is number =
-    let place : p.number - 1 ≡ length history = omega (arith, number) in
-    let at : slice_get (map spelling (history ++ on.0)) (length history) ≡ Some p.body =
-        ap (λ (h : History). slice_get (map spelling h) (length history)) (sym on.1) ∙ ap (λ k. slice_get (bodies_of leader) k) (sym place) ∙ is.is in
-    let next = next_of history on.0 p.body at in
+next_by leader history p can on next =
     let whole : leader ≡ history ++ next.entry ∷ next.others = on.1 ∙ ap (λ (h : History). history ++ h) next.more_is in (
       next.entry,
       next.others,
@@ -65,6 +61,13 @@ next_in leader history p can on is number =
       next.spelled,
       middle [] history next.entry next.others (subst (λ (h : History). EachMayBeTaken [] h) whole can),
     )
+
+next_in : (leader history : History) (p : Framed) → CanBeFollowed leader → (on : GoesOnFrom history leader) → IsPacketOf (bodies_of leader) p → p.number ≡ length history + 1
+    → (entry : Entry) × (others : History) × (leader ≡ (history ++ entry ∷ []) ++ others) × (spelling entry ≡ p.body) × MayBeTaken history entry
+next_in leader history p can on is number =
+    let place : p.number - 1 ≡ length history = omega (arith, number) in
+    next_by leader history p can on
+    (next_of history on.0 p.body (ap (λ (h : History). slice_get (map spelling h) (length history)) (sym on.1) ∙ ap (λ k. slice_get (bodies_of leader) k) (sym place) ∙ is.is))
 
 -- one packet of the leader leads from a front of it to a front of it
 one_step : (leader old new : History) (p : Framed) (note : Note) → CanBeFollowed leader → GoesOnFrom old leader → IsPacketOf (bodies_of leader) p → Follows old p note new → GoesOnFrom new leader
@@ -104,14 +107,14 @@ of_leader : (bodies : List (List ℕ)) (packets : List Framed) (rest to_come : L
 of_leader bodies packets rest to_come proper s =
     elim (one_way packets s.0 (rest ++ to_come) [] proper (all_proper bodies s.0 s.2) (sym (append_assoc (stream packets) rest to_come) ∙ s.1 ∙ sym (append-nil (stream s.0)))) [
       | inl on ↦ (
-        let all : All (IsPacketOf bodies) (packets ++ on.0) = subst (λ (ps : List Framed). All (IsPacketOf bodies) ps) on.1 s.2 in
-        record {
-          are = front_all (IsPacketOf bodies) packets on.0 all;
-          others = on.0;
-          proper = all_proper bodies on.0 (back_all (IsPacketOf bodies) packets on.0 all);
-          more = to_come;
-          rest_is = on.2 ∙ append-nil (stream on.0);
-        })
+          let all : All (IsPacketOf bodies) (packets ++ on.0) = subst (λ (ps : List Framed). All (IsPacketOf bodies) ps) on.1 s.2 in
+          record {
+            are = front_all (IsPacketOf bodies) packets on.0 all;
+            others = on.0;
+            proper = all_proper bodies on.0 (back_all (IsPacketOf bodies) packets on.0 all);
+            more = to_come;
+            rest_is = on.2 ∙ append-nil (stream on.0);
+          })
       | inr on ↦ none on.0 on.1 on.2
     ]
   where

@@ -1,5 +1,5 @@
 -- Each step of the abstract archive, and each stint, leads from a state that can be followed to such a one.
-use Rattle.std.proofs.Common.{◌≡◌, ◌⊎◌, ℕ, zero, suc, ◌≤◌, Bool, true, false, nat_lt, bytes_eq, List, [], ◌∷◌, ◌++◌, length, All, Option, Some, None, inl, inr, refl, sym, subst, arith}
+use Rattle.std.proofs.Common.{◌≡◌, ℕ, zero, suc, ◌≤◌, Bool, true, false, nat_lt, bytes_eq, List, [], ◌∷◌, ◌++◌, length, All, Option, Some, None, inl, inr, refl, sym, subst, arith}
 use Rattle.std.specs.List.{AllZip, flat_map}
 use Rattle.std.specs.Option.{option_map}
 use Rattle.std.specs.Prelude.{IfSome}
@@ -52,7 +52,7 @@ use Rattle.model_archive.proofs.LiveLemmas.{live_planned}
 use Rattle.model_archive.proofs.OutcomeLemmas.{step_legal}
 use Rattle.model_archive.proofs.RunLemmas.{state_after_all}
 use Rattle.model_archive.proofs.StoringLemmas.{idle_keeps}
-use Rattle.model_follow.specs.Following.{Follows, Had, Note, Took}
+use Rattle.model_follow.specs.Following.{Had, Took}
 use Rattle.model_follow.specs.Laws.{FollowersCanBeFollowed, RunsCanBeFollowed, SamplesCanBeFollowed, StepsCanBeFollowed, StintsCanBeFollowed}
 use Rattle.model_follow.specs.Taking.{CanBeFollowed, IfJobPlaced, IfPlaced, IsPlacedApart, KeepsUp}
 use Rattle.model_follow.proofs.JobLemmas.{IfBeside, IsOther, apart_without, job_on, taken_apart}
@@ -285,13 +285,10 @@ behind true next (work ∷ outcomes) Rest keeps on is zero = keeps
 behind true next (work ∷ outcomes) Rest keeps on is (suc j) = on work.next outcomes (stints next work.reply work.next keeps is.0) is.1 j
 
 run_with : (world : World) (list : List Item) (outcomes : List (Outcome Reply World)) → KeepsUp world → All HasDocument list → IsRunWith Step Works at_work world list outcomes → (j : ℕ) → KeepsUp (state_after world outcomes j)
-run_with world [] outcomes keeps has run j = subst (λ (os : List (Outcome Reply World)). KeepsUp (state_after world os j)) (sym run) (none j)
-  where
-    none : (j : ℕ) → KeepsUp (state_after world [] j)
-    none zero = keeps
-    none (suc j) = keeps
-run_with world (item ∷ list) [] keeps has run j = absurd run
-run_with world (item ∷ list) (o ∷ outcomes) keeps has run zero = keeps
+run_with world list outcomes keeps has run zero = keeps
+run_with world [] [] keeps has run (suc j) = keeps
+run_with world [] (o ∷ outcomes) keeps has run (suc j) = absurd cc
+run_with world (item ∷ list) [] keeps has run (suc j) = absurd run
 run_with world (item ∷ list) (o ∷ outcomes) keeps has run (suc j) =
     behind (at_work world) o.next outcomes (λ s rest. IsRunWith Step Works at_work s list rest) (steps world item o.reply o.next keeps (All-head HasDocument item list has) run.0)
     (λ s rest good is k. run_with s list rest good (All-tail HasDocument item list has) is k) run.1 j

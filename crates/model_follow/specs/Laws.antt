@@ -1,5 +1,5 @@
 -- What holds of archives that follow others.
-use Rattle.std.specs.Prelude.{◌≡◌, ℕ, ◌+◌, ◌≤◌, Bool, true, List, [], ◌++◌, length, All, Option, None}
+use Rattle.std.specs.Prelude.{◌≡◌, ℕ, ◌+◌, ◌≤◌, Bool, true, List, ◌++◌, length, All, Option, None}
 use Rattle.base_commands.specs.Documents.{HasDocument}
 use Rattle.base_commands.specs.declared.command.Item.{Item}
 use Rattle.journal_entries.specs.Spelling.{spelling, IsEntry}

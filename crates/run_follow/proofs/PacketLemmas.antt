@@ -34,11 +34,11 @@ export_more from all place body begun is =
     let k = place - (from - 1) in
     let p : Framed = record { number = place + 1; body = body } in
     let here : slice_get (export from all) k ≡ Some p =
-        drop_nth (from - 1) k (numbered 1 all) ∙ ap (slice_get (numbered 1 all)) (omega (arith, begun)) ∙ numbered_nth 1 all place body is
-        ∙ ap (λ (m : ℕ). Some (record { number = m; body = body })) (omega arith) in
+    drop_nth (from - 1) k (numbered 1 all) ∙ ap (slice_get (numbered 1 all)) (omega (arith, begun)) ∙ numbered_nth 1 all place body is
+    ∙ ap (λ (m : ℕ). Some (record { number = m; body = body })) (omega arith) in
     let more : take (k + 1) (export from all) ≡ take k (export from all) ++ p ∷ [] =
-        take_more (export from all) k p (slice_get_within (export from all) k p here)
-        ∙ ap (λ (q : Framed). take k (export from all) ++ q ∷ []) (get_or_from_slice_get (export from all) k p p here) in
+    take_more (export from all) k p (slice_get_within (export from all) k p here)
+    ∙ ap (λ (q : Framed). take k (export from all) ++ q ∷ []) (get_or_from_slice_get (export from all) k p p here) in
     ap (λ (m : ℕ). stream (take m (export from all))) (omega (arith, begun)) ∙ ap stream more ∙ stream_more (take k (export from all)) (p ∷ [])
     ∙ ap (λ (l : List ℕ). stream (take k (export from all)) ++ l) (append-nil (packet_bytes (place + 1) body))
 
@@ -50,8 +50,8 @@ export_front from all place body part begun is front =
     let n = place + 1 - (from - 1) in
     let behind = stream (drop n (export from all)) in
     let whole : stream (export from all) ≡ (before ++ packet_bytes (place + 1) body) ++ behind =
-        ap stream (sym (take-append-drop n (export from all))) ∙ stream_more (take n (export from all)) (drop n (export from all))
-        ∙ ap (λ (l : List ℕ). l ++ behind) (export_more from all place body begun is) in (
+    ap stream (sym (take-append-drop n (export from all))) ∙ stream_more (take n (export from all)) (drop n (export from all))
+    ∙ ap (λ (l : List ℕ). l ++ behind) (export_more from all place body begun is) in (
       front.0 ++ behind,
       whole ∙ ap (λ (l : List ℕ). (before ++ l) ++ behind) front.1 ∙ ap (λ (l : List ℕ). l ++ behind) (sym (append_assoc before part front.0))
           ∙ append_assoc (before ++ part) front.0 behind,
