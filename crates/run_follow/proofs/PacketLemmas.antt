@@ -21,7 +21,9 @@ numbered_nth n (b ∷ bodies) (suc k) body e = numbered_nth (n + 1) bodies k bod
 drop_nth : {X : Type 0} (j k : ℕ) (xs : List X) → slice_get (drop j xs) k ≡ slice_get xs (j + k)
 drop_nth zero k xs = ap (slice_get xs) (omega arith)
 drop_nth (suc j) k [] = refl
-drop_nth (suc j) k (x ∷ xs) = drop_nth j k xs ∙ ap (slice_get (x ∷ xs)) (omega arith)
+drop_nth (suc j) k (x ∷ xs) =
+    let e : suc (j + k) ≡ suc j + k = omega arith in
+    drop_nth j k xs ∙ ap (slice_get (x ∷ xs)) e
 
 length_numbered : (n : ℕ) (bodies : List (List ℕ)) → length (numbered n bodies) ≡ length bodies
 length_numbered n [] = refl
@@ -63,4 +65,6 @@ export_all from all place past =
     take_all (place - (from - 1)) (export from all) (omega (arith, past, length-drop (from - 1) (numbered 1 all), length_numbered 1 all))
 
 pub none_yet : (from : ℕ) (all : List (List ℕ)) → take (from - 1 - (from - 1)) (export from all) ≡ []
-none_yet from all = ap (λ (m : ℕ). take m (export from all)) (omega arith)
+none_yet from all =
+    let e : from - 1 - (from - 1) ≡ 0 = omega arith in
+    ap (λ (m : ℕ). take m (export from all)) e
