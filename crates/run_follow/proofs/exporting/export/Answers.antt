@@ -1,5 +1,4 @@
-use Rattle.std.proofs.Common.{ap}
-use Rattle.machine_model.specs.States.{DiskState}
+use Rattle.std.proofs.Common.{◌≡◌}
 use Rattle.model_archive.specs.Stands.{bodies_of}
 use Rattle.run_follow.proofs.BesideLemmas.{reads_hold}
 use Rattle.run_follow.proofs.ExportLemmas.{all_short, are_still, shows_behind}
