@@ -24,6 +24,7 @@ use Rattle.model_archive.specs.declared.stored.StoredPlan.{StoredPlan}
 use Rattle.model_archive.proofs.HoldLemmas.{same_live}
 use Rattle.archive_plans.specs.Shelves.{extents_all}
 use Rattle.archive_hand.specs.Changing.{KeepsBy, LeadsBy}
+use Rattle.archive_hand.specs.Jobs.{plain_job}
 use Rattle.archive_hand.specs.States.{ArchiveState, AreInStepBy, CacheStands, IsSameButCache, StandsFor, with_entry, with_reads}
 use Rattle.archive_hand.specs.Stored.{Store, EachStandsBy, HasSame, StandsBy, Stocks}
 use Rattle.archive_hand.proofs.AddLemmas.{step_reads}

@@ -1,5 +1,5 @@
 -- A plan that is being written goes on waiting, and its pages hold what was written.
-use Rattle.std.proofs.Common.{All, IsSome, List, None, Option, Some, [], ap, arith, get_or, inl, inr, length, refl, subst, sym, take, zero-add, ℕ, ◌*◌, ◌++◌, ◌+◌, ◌<◌, ◌∙◌, ◌∷◌, ◌≡◌, ◌≤◌}
+use Rattle.std.proofs.Common.{All, IsSome, List, None, Option, Some, [], ap, arith, inl, inr, length, refl, subst, sym, take, ℕ, ◌*◌, ◌++◌, ◌+◌, ◌∷◌, ◌≡◌, ◌≤◌}
 use Rattle.std.specs.List.{AllZip}
 use Rattle.std.proofs.lemmas.List.Elements.{All-append, All-nil, All-take, All-weaker}
 use Rattle.base_types.specs.declared.extent.Extent.{Extent}
@@ -16,7 +16,7 @@ use Rattle.journal_entries.specs.declared.place.Place.{Place}
 use Rattle.journal_entries.specs.declared.plan.PlanEntry.{PlanEntry}
 use Rattle.pages_sublists.specs.Paged.{ReachPages}
 use Rattle.pages_sublists.specs.Preparing.{IsFor, PreparedState, extents, pieces}
-use Rattle.pages_sublists.proofs.PagedLemmas.{pages_lie}
+use Rattle.pages_sublists.proofs.PagedLemmas.{all_left, all_right, pages_lie}
 use Rattle.model_archive.specs.Histories.{History, entry_refusal}
 use Rattle.model_archive.specs.Plans.{live_extents, live_plans}
 use Rattle.model_archive.specs.Worlds.{Job as ModelJob, taken_in}
@@ -76,6 +76,12 @@ reach_on n m ks more reached = All-weaker (λ k. k.page * 4096 + length k.bytes 
 -- what is kept and what was written, apart
 pub both_stand : (cache written : List Kept) (pages : List ℕ) → IsCacheOf cache pages → IsCacheOf written pages → IsCacheOf (cache ++ written) pages
 both_stand cache written pages one two = All-append (IsHeld pages) cache written one two
+
+pub kept_part : (cache written : List Kept) (pages : List ℕ) → IsCacheOf (cache ++ written) pages → IsCacheOf cache pages
+kept_part cache written pages both = all_left (IsHeld pages) cache written both
+
+pub written_part : (cache written : List Kept) (pages : List ℕ) → IsCacheOf (cache ++ written) pages → IsCacheOf written pages
+written_part cache written pages both = all_right (IsHeld pages) cache written both
 
 -- pages that sublists don't lie in are as they were once these are stored
 pub others_stay : (ks : List Kept) (prepared : PreparedState) (old new : DiskState) → All (λ k. IsTaken (extents_of (pieces prepared)) k.page → ⊥) ks → Stored (pieces prepared) old new

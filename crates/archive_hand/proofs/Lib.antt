@@ -12,3 +12,6 @@ mod StoreLemmas
 mod LoadLemmas
 mod JobLemmas
 mod WorkLemmas
+mod StintLemmas
+mod BeginLemmas
+mod AdvanceLemmas

@@ -1,5 +1,5 @@
 -- The tests of a phrase that is to be planned, by any names of what they come to.
-use Rattle.std.proofs.Common.{Bool, true, false, bytes_eq, ◌≡◌, ℕ, ◌<◌, List, [], ◌∷◌, length, Option, Some, None, Result, Err, sym, subst, inl, inr, arith}
+use Rattle.std.proofs.Common.{Bool, true, false, bytes_eq, ◌≡◌, ℕ, ◌<◌, List, [], ◌∷◌, length, Option, Some, None, Result, Err, ap, sym, subst, inl, inr, arith}
 use Rattle.base_types.specs.declared.posting.Posting.{Posting}
 use Rattle.base_commands.specs.declared.command.Kind.{Kind}
 use Rattle.base_commands.specs.declared.command.Kind.TheVariants.{Guarantee, Uniform, Since}
@@ -67,6 +67,10 @@ map_idle (Some job) word One Other A B refused goes of = go (bytes_eq job.plan.w
 -- refusals that are the same in two results
 pub one_why : {T : Type 0} (a b : Refusal) → ◌≡◌ {A = Result T Declined} (Err (declines.Refused a)) (Err (declines.Refused b)) → b ≡ a
 one_why a b e = cc
+
+-- a refusal of one result is one of another
+pub retyped : {T U : Type 0} (e x : Declined) → ◌≡◌ {A = Result T Declined} (Err e) (Err x) → ◌≡◌ {A = Result U Declined} (Err e) (Err x)
+retyped e x is = let same : e ≡ x = cc in ap (λ (y : Declined). Err y) same
 
 pub not_both : (b : Bool) → b ≡ false → b ≡ true → ⊥
 not_both b f t = absurd cc

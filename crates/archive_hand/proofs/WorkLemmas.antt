@@ -8,7 +8,6 @@ use Rattle.machine_model.specs.Images.{MayLeave}
 use Rattle.machine_model.specs.States.{DiskState, moment}
 use Rattle.machine_model.proofs.MomentLemmas.{allowed_left}
 use Rattle.base_types.specs.Limits.{limit_of}
-use Rattle.base_types.specs.declared.extent.Extent.{Extent}
 use Rattle.base_types.specs.declared.which.Which.TheVariants.{Journal}
 use Rattle.lists_versions.specs.Tests.{when}
 use Rattle.journal_gates.specs.InStep.{IsInStep}
@@ -97,7 +96,7 @@ works_dropped s next job why is last full history asked none because =
 abbrev pub went_on : ArchiveState → Job → ArchiveState
 went_on a job = record a { live = true; job = Some (further job) }
 
-stands_on : (a : ArchiveState) (h : History) (job : Job) → a.job ≡ Some job → 8 < job.pages - job.written → StandsFor a h → StandsFor (went_on a job) h
+pub stands_on : (a : ArchiveState) (h : History) (job : Job) → a.job ≡ Some job → 8 < job.pages - job.written → StandsFor a h → StandsFor (went_on a job) h
 stands_on a h job is more stands =
     let waits = waiting a h job is stands in
     record {
@@ -156,7 +155,7 @@ stint_wrote s a job old new in_step is more changes allowed cached =
         read_is = refl;
         job_is = refl;
         live = (All-weaker (HasSame s.pages new.holds.pages) (IsInside (length new.holds.pages)) (λ e has. has.0) live same, in_step.live.1);
-        same = λ image left. both_same s.pages new.holds.pages image live same (stood image left).same;
+        same = λ image left. both_same s.pages new.holds.pages image.pages live same (stood image left).same;
         cached = cached;
       },
     )

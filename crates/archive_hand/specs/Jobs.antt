@@ -1,5 +1,5 @@
 -- A plan that is being written, in hand: its sublists, its entry, and how many of their pages are written.
-use Rattle.std.specs.Prelude.{◌≡◌, ℕ, ◌-◌, ◌≤◌, List, [], ◌++◌, length, take, Option, Some, None}
+use Rattle.std.specs.Prelude.{◌≡◌, ℕ, ◌-◌, ◌≤◌, List, [], length, take, Option, Some, None}
 use Rattle.base_types.specs.declared.extent.Extent.{Extent}
 use Rattle.pages_area.specs.Caches.{Kept}
 use Rattle.pages_sublists.specs.Paged.{pages_of, some_pages}

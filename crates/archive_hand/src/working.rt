@@ -1,5 +1,6 @@
 //! A plan that is written while other commands go on: it is begun, and then written by stints.
 ghost use Rattle.std.specs.Prelude.{◌≡◌, ◌+◌, ◌-◌, ◌<◌, ◌≤◌, ◌^◌, ◌++◌, ◌∷◌, [], ℕ, List, length, take, All, None, IsTrue, IsSome, IsOk, IfOk, IfErr, IfSome, OnOk, OnErr, IsErrOf, ◌↔◌};
+ghost use Rattle.std.specs.List.{AllZip};
 ghost use Rattle.base_types.specs.declared.extent.Extent.{Extent as PlainExtent};
 ghost use Rattle.machine_model.specs.Causes.{Rose};
 ghost use Rattle.journal_gates.specs.InStep.{IsInStep};
@@ -9,7 +10,7 @@ ghost use Rattle.pages_area.specs.Crash.{ChangesOnly};
 ghost use Rattle.pages_area.specs.Runs.{IsTaken};
 ghost use Rattle.pages_area.specs.Taken.{HasTaken};
 ghost use Rattle.pages_sublists.specs.Paged.{ReachPages, WrotePages, page_ranges, some_pages};
-ghost use Rattle.pages_sublists.specs.Preparing.{extents, pieces};
+ghost use Rattle.pages_sublists.specs.Preparing.{IsFor, extents, pieces};
 ghost use Rattle.model_archive.specs.Histories.{History};
 ghost use Rattle.model_archive.specs.Plans.{live_extents, with_plan};
 ghost use Rattle.model_archive.specs.Steps.{left_of, pages_in};
@@ -59,13 +60,16 @@ impl Archive {
             → IsFull draft (live_extents h) self.old.end why }
         ensures stays { (h : History) → StandsFor self.old h → OnErr result (StandsFor self.new h) }
     {
-        let ready = make_ready(
+        let ready = match make_ready(
             alloc,
             self.journal.end(),
             self.entries,
             &mut self.shelf,
             draft,
-        )?;
+        ) {
+            Ok(ready) => ready,
+            Err(why) => return Err(why),
+        };
         let Some(pages) = pages_in_all(ready.prepared.places()) else {
             self.shelf.forget(ready.prepared);
             return Err(Declined::Memory);
@@ -100,7 +104,7 @@ impl Archive {
             → TakesStint s result (D.disk disk.old) (D.disk disk.new) self.new }
     {
         let Some(job) = self.job.take() else {
-            return Ok(Stint::Wrote { left: 0 });
+            unreachable!()
         };
         self.live = false;
         if job.pages - job.written > STINT_PAGES {
@@ -191,6 +195,7 @@ fn finish<D: Disk>(
     requires few { count < 2 ^ 40 }
     requires places { job.ready.stored.plan.places ≡ job.ready.prepared.places }
     requires taken { HasTaken shelf.old.pages (extents job.ready.prepared.places ++ extents_all shelf.old.plans) }
+    requires each { AllZip IsFor job.ready.prepared.places job.ready.prepared.spellings }
     requires last { length (job_pages job) ≤ job.written + 8 }
     ensures only { D.Disk.only disk.old disk.new }
     ensures failed { OnErr result (Rose (D.disk disk.old).faults (D.disk disk.new).faults) }
@@ -265,6 +270,7 @@ fn put_rest<D: Disk>(
     requires fits { journal.old.end + gate_bytes + length job.now.ready.frame ≤ 2 ^ 40 }
     requires taken { (live : List PlainExtent) × HasTaken sublists.now.pages (extents job.now.ready.prepared.places ++ live) }
     requires unkept { All (λ k. IsTaken (extents job.now.ready.prepared.places) k.page → ⊥) sublists.now.cache }
+    requires each { AllZip IsFor job.now.ready.prepared.places job.now.ready.prepared.spellings }
     requires last { length (job_pages job.now) ≤ job.now.written + 8 }
     ensures only { D.Disk.only disk.old disk.new }
     ensures failed { OnErr result (Rose (D.disk disk.old).faults (D.disk disk.new).faults) }

@@ -1,5 +1,5 @@
 -- A packet is one of the cases, and only one.
-use Rattle.std.proofs.Common.{◌≡◌, ◌⊎◌, ℕ, zero, suc, ◌+◌, ◌-◌, ◌<◌, ◌≤◌, List, [], ◌∷◌, ◌++◌, length, map, take, Option, Some, None, inl, inr, refl, ap, sym, subst, ◌∙◌, arith}
+use Rattle.std.proofs.Common.{◌≡◌, ◌⊎◌, ℕ, zero, suc, ◌+◌, ◌-◌, ◌<◌, ◌≤◌, List, [], ◌∷◌, ◌++◌, length, take, Option, Some, None, inl, inr, refl, ap, sym, subst, ◌∙◌, arith}
 use Rattle.std.specs.Prelude.{slice_get}
 use Rattle.std.proofs.lemmas.Bool.{cases_lt}
 use Rattle.std.proofs.lemmas.List.{length-map}
@@ -8,11 +8,11 @@ use Rattle.journal_entries.specs.Spelling.{spelling}
 use Rattle.journal_entries.specs.declared.entry.Entry.{Entry}
 use Rattle.journal_entries.proofs.EntryLemmas.{one_entry}
 use Rattle.journal_packets.specs.Cases.{DifferAt}
-use Rattle.journal_packets.specs.Packets.{Framed, IsFramed}
+use Rattle.journal_packets.specs.Packets.{Framed}
 use Rattle.journal_packets.specs.Streams.{IsPacketOf}
 use Rattle.model_archive.specs.Histories.{History}
 use Rattle.model_archive.specs.Stands.{bodies_of}
-use Rattle.model_follow.specs.Following.{CannotBeTaken, DiffersAt, Follows, IsBeyond, Note, Had, Took}
+use Rattle.model_follow.specs.Following.{DiffersAt, Had, Took}
 use Rattle.model_follow.specs.Laws.{EndsAreApart, PacketsHaveCases, StepsAreNoEnds, StepsAreOne}
 
 -- ---- lists of bytes that differ
@@ -90,7 +90,7 @@ differ_or_same (x ∷ xs) (y ∷ ys) = elim (cases_lt x y) [
 
 -- an entry is there of a number up to the length
 within : (h : History) (n : ℕ) (body : List ℕ) → 1 ≤ n → slice_get (bodies_of h) (n - 1) ≡ Some body → n ≤ length h
-within h n body some is = let inside : n - 1 < length (bodies_of h) = slice_get_within (bodies_of h) (n - 1) body is in omega (arith, some, inside, length-map spelling h)
+within h n body some is = let inside : n - 1 < length (bodies_of h) = slice_get_within (bodies_of h) (n - 1) body is in omega (arith, some, inside, length-map h spelling)
 
 had_within : (h : History) (p : Framed) → IsPacketOf (bodies_of h) p → p.number ≤ length h
 had_within h p is = within h p.number p.body is.proper.counted is.is
@@ -162,5 +162,5 @@ packets_have_cases old p proper no_step not_beyond not_differs = elim (cases_lt 
     is_there : p.number ≤ length old → ⊥
     is_there had = elim (slice_get_cases (bodies_of old) (p.number - 1)).1 [
       | inl found ↦ kept_or_not found.0 found.2 (differ_or_same found.0 p.body)
-      | inr past ↦ omega (arith, had, past.0, length-map spelling old, proper.counted)
+      | inr past ↦ omega (arith, had, past.0, length-map old spelling, proper.counted)
     ]

@@ -9,7 +9,6 @@ use Rattle.journal_entries.specs.declared.entry.Entry.{Entry}
 use Rattle.journal_packets.specs.Packets.{Framed, IsFramed, most_body}
 use Rattle.journal_packets.specs.Streams.{ExportsAreStreams, export, numbered}
 use Rattle.model_archive.specs.Histories.{History, end_of}
-use Rattle.plans_kinds.specs.Plans.{IsGoodPlan}
 use Rattle.model_archive.specs.Runs.{Outcome, IsRun}
 use Rattle.model_archive.specs.Standing.{last_state}
 use Rattle.model_archive.specs.Stands.{bodies_of}
@@ -23,7 +22,7 @@ use Rattle.model_follow.proofs.LeaderLemmas.{followed_middle}
 all_short : SpellingsHaveRoom → (before h : History) → EachMayBeTaken before h → All (λ (body : List ℕ). length body ≤ most_body) (bodies_of h)
 all_short room before [] each = All-nil (λ (body : List ℕ). length body ≤ most_body)
 all_short room before (e ∷ h) each =
-    All-cons (λ (body : List ℕ). length body ≤ most_body) (spelling e) (bodies_of h) (room IsGoodPlan before e each.0.legal) (all_short room (before ++ e ∷ []) h each.1)
+    All-cons (λ (body : List ℕ). length body ≤ most_body) (spelling e) (bodies_of h) (room before e each.0.legal.ranges each.0.legal.allowed) (all_short room (before ++ e ∷ []) h each.1)
 
 few_after : (before h : History) → EachMayBeTaken before h → end_of before ≤ 2 ^ 40 → end_of (before ++ h) ≤ 2 ^ 40
 few_after before [] each few = let E : History → Type 0 = λ g. end_of g ≤ 2 ^ 40 in subst E (sym (append-nil before)) few
@@ -76,7 +75,7 @@ leads : (leader history before rest : History) (n : ℕ) → SpellingsHaveRoom �
 leads leader history before [] n room can on split long is =
     let whole : leader ≡ before = split ∙ append-nil before in
     let same : history ≡ before = same_front history before on.0 [] (sym on.1 ∙ split)
-        (omega (arith, long, ap (λ (h : History). length h) whole, ap (λ (h : History). length h) on.1, length-append history on.0)) in
+    (omega (arith, long, ap (λ (h : History). length h) whole, ap (λ (h : History). length h) on.1, length-append history on.0)) in
     ([], tt, same ∙ sym whole)
 leads leader history before (e ∷ rest) n room can on split long is = elim (cases_lt (length before) (length history)) [
   | inl within ↦
@@ -96,7 +95,7 @@ leads leader history before (e ∷ rest) n room can on split long is = elim (cas
     proper = record {
       counted = omega (arith, is);
       numbered = omega (arith, is, few leader can, ap (λ (h : History). length h) split, length-append before (e ∷ rest));
-      short = room IsGoodPlan before e may.legal;
+      short = room before e may.legal.ranges may.legal.allowed;
     }
 
     again : leader ≡ (before ++ e ∷ []) ++ rest
@@ -114,15 +113,17 @@ leads leader history before (e ∷ rest) n room can on split long is = elim (cas
     had within (outcomes, run, last) =
         let place : n - 1 ≡ length before = omega (arith, is) in
         let here : slice_get (bodies_of history) (n - 1) ≡ Some (spelling e) =
-            ap (λ k. slice_get (bodies_of history) k) place ∙ inside history on.0 before rest e (sym on.1 ∙ split) within in
+        ap (λ k. slice_get (bodies_of history) k) place ∙ inside history on.0 before rest e (sym on.1 ∙ split) within in
         (record { reply = Had n; next = history } ∷ outcomes, ((refl, record { proper = proper; is = here }, refl), run), last)
 
     took : length before ≡ length history
         → ((outcomes : List (Outcome Note History)) × IsRun Follows (history ++ e ∷ []) (numbered (n + 1) (bodies_of rest)) outcomes × (last_state (history ++ e ∷ []) outcomes ≡ leader))
         → (outcomes : List (Outcome Note History)) × IsRun Follows history (numbered n (bodies_of (e ∷ rest))) outcomes × (last_state history outcomes ≡ leader)
-    took level (outcomes, run, last) =
-        (record { reply = Took n; next = history ++ e ∷ [] } ∷ outcomes,
-        ((refl, omega (arith, is, level), (e, refl, subst (λ (h : History). MayBeTaken h e) (same level) may, refl)), run), last)
+    took level (outcomes, run, last) = (
+      record { reply = Took n; next = history ++ e ∷ [] } ∷ outcomes,
+      ((refl, omega (arith, is, level), (e, refl, subst (λ (h : History). MayBeTaken h e) (same level) may, refl)), run),
+      last,
+    )
 
 pub exports_lead : SpellingsHaveRoom → ExportsLeadToTheLeader
 exports_lead room leader history from can on some within =
@@ -132,5 +133,5 @@ exports_lead room leader history from can on some within =
     let rest = drop k leader in
     let led = leads leader history before rest from room can on (sym (take-append-drop k leader)) (omega (arith, within, length-take-le k leader long)) (omega (arith, some, length-take-le k leader long)) in
     let same : export from (bodies_of leader) ≡ numbered from (bodies_of rest) =
-        drop_numbered k 1 (bodies_of leader) ∙ ap (λ (m : ℕ). numbered m (drop k (bodies_of leader))) (omega (arith, some)) ∙ ap (λ (b : List (List ℕ)). numbered from b) (drop-map spelling k leader) in
+    drop_numbered k 1 (bodies_of leader) ∙ ap (λ (m : ℕ). numbered m (drop k (bodies_of leader))) (omega (arith, some)) ∙ ap (λ (b : List (List ℕ)). numbered from b) (drop-map spelling k leader) in
     (led.0, subst (λ (ps : List Framed). IsRun Follows history ps led.0) (sym same) led.1, led.2)

@@ -16,8 +16,8 @@ use Rattle.model_archive.specs.declared.stored.StoredPlan.{StoredPlan}
 use Rattle.model_archive.specs.Histories.{History, end_of, entry_refusal}
 use Rattle.model_archive.specs.Legal.{MayBeStored}
 use Rattle.model_archive.specs.Planning.{last_second}
-use Rattle.model_archive.specs.Plans.{IsNoPlan, extents_of, first_plan, is_another, live_extents, live_plans, plan_of}
-use Rattle.model_archive.specs.Worlds.{Job, job_extents, taken_in}
+use Rattle.model_archive.specs.Plans.{extents_of, first_plan, is_another, live_extents, live_plans, plan_of}
+use Rattle.model_archive.specs.Worlds.{Job, taken_in}
 use Rattle.model_archive.proofs.HoldLemmas.{all_extents, apart_more, same_live}
 use Rattle.model_archive.proofs.LiveLemmas.{later_push, list_later, live_plans-push}
 use Rattle.model_follow.specs.Taking.{IfJobPlaced, IsPlacedApart}
@@ -69,7 +69,7 @@ taken_next h plan p taken =
     let T : List StoredPlan → Type 0 = λ live. IsTaken (all_extents live) p in
     let E : List Extent → Type 0 = λ es. IsTaken es p in
     let all : IsTaken (all_extents kept ++ all_extents (new ∷ [])) p =
-        subst E (flat_map-append (λ (stored : StoredPlan). extents_of stored.plan) kept (new ∷ [])) (subst T (live_plans-push h (Planned plan)) taken) in
+    subst E (flat_map-append (λ (stored : StoredPlan). extents_of stored.plan) kept (new ∷ [])) (subst T (live_plans-push h (Planned plan)) taken) in
     elim (taken_parts (all_extents kept) (all_extents (new ∷ [])) p all) [
       | inl old ↦ inr (kept_taken keep (live_plans h) p old)
       | inr own ↦ inl (subst E (append-nil (extents_of plan)) own)
@@ -77,31 +77,28 @@ taken_next h plan p taken =
 
 -- ---- the live plan of a word
 
--- a plan of another word leaves it
-same_first : (word : List ℕ) (new : StoredPlan) (live : List StoredPlan) → bytes_eq new.plan.word word ≡ false
-    → filter (λ stored. bytes_eq stored.plan.word word) (filter (is_another new.plan.word) live ++ new ∷ []) ≡ filter (λ stored. bytes_eq stored.plan.word word) live
-same_first word new [] other = ap (λ (b : Bool). cond b (new ∷ []) []) other
-same_first word new (s ∷ live) other = go (bytes_eq s.plan.word new.plan.word) refl (same_first word new live other)
+-- a plan leaves those of which something holds that isn't so of its word's
+same_kept : (keep : StoredPlan → Bool) (new : StoredPlan) (live : List StoredPlan) → ((s : StoredPlan) → s.plan.word ≡ new.plan.word → keep s ≡ false)
+    → filter keep (filter (is_another new.plan.word) live ++ new ∷ []) ≡ filter keep live
+same_kept keep new [] other = ap (λ (b : Bool). cond b (new ∷ []) []) (other new refl)
+same_kept keep new (s ∷ live) other = go (bytes_eq s.plan.word new.plan.word) refl (same_kept keep new live other)
   where
-    keep : StoredPlan → Bool
-    keep stored = bytes_eq stored.plan.word word
-
     go : (b : Bool) → bytes_eq s.plan.word new.plan.word ≡ b → filter keep (filter (is_another new.plan.word) live ++ new ∷ []) ≡ filter keep live
         → filter keep (cond (not b) (s ∷ filter (is_another new.plan.word) live) (filter (is_another new.plan.word) live) ++ new ∷ []) ≡ filter keep (s ∷ live)
     go false is rest = ap (λ (l : List StoredPlan). cond (keep s) (s ∷ l) l) rest
-    go true is rest =
-        let same : s.plan.word ≡ new.plan.word = (bytes_decides s.plan.word new.plan.word).0 is in
-        rest ∙ ap (λ (b : Bool). cond b (s ∷ filter keep live) (filter keep live)) (sym (ap (λ (w : List ℕ). bytes_eq w word) same ∙ other))
+    go true is rest = rest ∙ sym (ap (λ (b : Bool). cond b (s ∷ filter keep live) (filter keep live)) (other s ((bytes_decides s.plan.word new.plan.word).0 is)))
 
+-- so one of another word leaves the live plan of a word
 pub another_plan : (h : History) (plan : PlanEntry) (word : List ℕ) → bytes_eq word plan.word ≡ false → plan_of (h ++ Planned plan ∷ []) word ≡ plan_of h word
 another_plan h plan word other =
     let new : StoredPlan = record { gate = end_of h - 1; plan = plan } in
     let keep : StoredPlan → Bool = λ stored. bytes_eq stored.plan.word word in
-    ap (λ (live : List StoredPlan). first_plan (filter keep live)) (live_plans-push h (Planned plan)) ∙ ap first_plan (same_first word new (live_plans h) (flip (bytes_eq plan.word word) refl))
+    ap (λ (live : List StoredPlan). first_plan (filter keep live)) (live_plans-push h (Planned plan))
+    ∙ ap first_plan (same_kept keep new (live_plans h) (λ s same. flip s.plan.word same (bytes_eq s.plan.word word) refl))
   where
-    flip : (b : Bool) → bytes_eq plan.word word ≡ b → bytes_eq plan.word word ≡ false
-    flip false is = is
-    flip true is = absurd (false≢true (sym other ∙ (bytes_decides word plan.word).1 (sym ((bytes_decides plan.word word).0 is))))
+    flip : (w : List ℕ) → w ≡ plan.word → (b : Bool) → bytes_eq w word ≡ b → bytes_eq w word ≡ false
+    flip w same false is = is
+    flip w same true is = absurd (false≢true (sym other ∙ (bytes_decides word plan.word).1 (sym ((bytes_decides w word).0 is) ∙ same)))
 
 -- ---- an entry more
 

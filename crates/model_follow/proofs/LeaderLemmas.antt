@@ -11,9 +11,10 @@ use Rattle.journal_entries.proofs.EntryLemmas.{one_entry}
 use Rattle.journal_entries.specs.Spelling.{spelling}
 use Rattle.journal_entries.specs.declared.entry.Entry.{Entry}
 use Rattle.model_archive.specs.Histories.{History}
-use Rattle.model_archive.specs.Runs.{Outcome, state_after}
+use Rattle.model_archive.specs.Runs.{state_after}
 use Rattle.model_archive.specs.Standing.{last_state}
 use Rattle.model_archive.specs.Stands.{bodies_of}
+use Rattle.model_archive.proofs.RunLemmas.{state_after_all}
 use Rattle.model_follow.specs.Taking.{CanBeFollowed, EachMayBeTaken, MayBeTaken}
 use Rattle.model_follow.specs.Following.{BeginWith, CannotBeTaken, DiffersAt, Follows, Note, Had, Took}
 use Rattle.model_follow.specs.Laws.{AreOf, FollowersOfALeader, FollowersStayPrefixes, GoesOnFrom}
@@ -50,13 +51,9 @@ pub followed_middle : (history : History) (entry : Entry) (others : History) →
 followed_middle history entry others can = middle [] history entry others can
 
 -- the leader's next entry behind a history, by a packet of it
-next_in : (leader history : History) (p : Framed) → CanBeFollowed leader → (on : GoesOnFrom history leader) → IsPacketOf (bodies_of leader) p → p.number ≡ length history + 1
+next_by : (leader history : History) (p : Framed) → CanBeFollowed leader → (on : GoesOnFrom history leader) → HasNext history on.0 p.body
     → (entry : Entry) × (others : History) × (leader ≡ (history ++ entry ∷ []) ++ others) × (spelling entry ≡ p.body) × MayBeTaken history entry
-next_in leader history p can on is number =
-    let place : p.number - 1 ≡ length history = omega (arith, number) in
-    let at : slice_get (map spelling (history ++ on.0)) (length history) ≡ Some p.body =
-        ap (λ (h : History). slice_get (map spelling h) (length history)) (sym on.1) ∙ ap (λ k. slice_get (bodies_of leader) k) (sym place) ∙ is.is in
-    let next = next_of history on.0 p.body at in
+next_by leader history p can on next =
     let whole : leader ≡ history ++ next.entry ∷ next.others = on.1 ∙ ap (λ (h : History). history ++ h) next.more_is in (
       next.entry,
       next.others,
@@ -64,6 +61,13 @@ next_in leader history p can on is number =
       next.spelled,
       middle [] history next.entry next.others (subst (λ (h : History). EachMayBeTaken [] h) whole can),
     )
+
+next_in : (leader history : History) (p : Framed) → CanBeFollowed leader → (on : GoesOnFrom history leader) → IsPacketOf (bodies_of leader) p → p.number ≡ length history + 1
+    → (entry : Entry) × (others : History) × (leader ≡ (history ++ entry ∷ []) ++ others) × (spelling entry ≡ p.body) × MayBeTaken history entry
+next_in leader history p can on is number =
+    let place : p.number - 1 ≡ length history = omega (arith, number) in
+    next_by leader history p can on
+    (next_of history on.0 p.body (ap (λ (h : History). slice_get (map spelling h) (length history)) (sym on.1) ∙ ap (λ k. slice_get (bodies_of leader) k) (sym place) ∙ is.is))
 
 -- one packet of the leader leads from a front of it to a front of it
 one_step : (leader old new : History) (p : Framed) (note : Note) → CanBeFollowed leader → GoesOnFrom old leader → IsPacketOf (bodies_of leader) p → Follows old p note new → GoesOnFrom new leader
@@ -84,11 +88,6 @@ stay_prefixes leader history (p ∷ packets) (o ∷ outcomes) can on are run (su
 stay_prefixes leader history [] (o ∷ outcomes) can on are run (suc j) l = absurd run
 stay_prefixes leader history (p ∷ packets) [] can on are run (suc j) l = absurd run
 
--- after all outcomes
-last_is : {S R : Type 0} (state : S) (outcomes : List (Outcome R S)) → state_after state outcomes (length outcomes) ≡ last_state state outcomes
-last_is state [] = refl
-last_is state (o ∷ outcomes) = last_is o.next outcomes
-
 -- ---- the packets of the bytes pulled are the leader's, and what is left is a front of more of them
 
 pub record AreLeaders (bodies : List (List ℕ)) (packets : List Framed) (rest : List ℕ) : Type 0 where
@@ -108,14 +107,14 @@ of_leader : (bodies : List (List ℕ)) (packets : List Framed) (rest to_come : L
 of_leader bodies packets rest to_come proper s =
     elim (one_way packets s.0 (rest ++ to_come) [] proper (all_proper bodies s.0 s.2) (sym (append_assoc (stream packets) rest to_come) ∙ s.1 ∙ sym (append-nil (stream s.0)))) [
       | inl on ↦ (
-        let all : All (IsPacketOf bodies) (packets ++ on.0) = subst (λ (ps : List Framed). All (IsPacketOf bodies) ps) on.1 s.2 in
-        record {
-          are = front_all (IsPacketOf bodies) packets on.0 all;
-          others = on.0;
-          proper = all_proper bodies on.0 (back_all (IsPacketOf bodies) packets on.0 all);
-          more = to_come;
-          rest_is = on.2 ∙ append-nil (stream on.0);
-        })
+          let all : All (IsPacketOf bodies) (packets ++ on.0) = subst (λ (ps : List Framed). All (IsPacketOf bodies) ps) on.1 s.2 in
+          record {
+            are = front_all (IsPacketOf bodies) packets on.0 all;
+            others = on.0;
+            proper = all_proper bodies on.0 (back_all (IsPacketOf bodies) packets on.0 all);
+            more = to_come;
+            rest_is = on.2 ∙ append-nil (stream on.0);
+          })
       | inr on ↦ none on.0 on.1 on.2
     ]
   where
@@ -161,7 +160,7 @@ of_a_leader leader history carried behind rest to_come outcomes can on proper ru
     let left : All (IsPacketOf bodies) behind = back_all (IsPacketOf bodies) carried behind of.are in
     let prefixes : (j : ℕ) → j ≤ length outcomes → GoesOnFrom (state_after history outcomes j) leader = stay_prefixes leader history carried outcomes can on mine run in
     let last : History = last_state history outcomes in
-    let front : GoesOnFrom last leader = subst (λ (h : History). GoesOnFrom h leader) (last_is history outcomes) (prefixes (length outcomes) (omega arith)) in (
+    let front : GoesOnFrom last leader = subst (λ (h : History). GoesOnFrom h leader) (state_after_all history outcomes) (prefixes (length outcomes) (omega arith)) in (
       prefixes,
       (λ place kept got begins.
           let one = head_of (IsPacketOf bodies) (DiffersAt last place kept got) behind left begins in

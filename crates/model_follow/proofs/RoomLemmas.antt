@@ -42,12 +42,11 @@ kind_room Uniform = omega arith
 kind_room (Since at) = omega arith
 
 pub has_room : ((p : PlanEntry) → IsPlanEntry p → length (plan_spelling p) ≡ plan_length p) → SpellingsHaveRoom
-has_room long Good before (Arrive doc at text) legal = let most = legal.ranges.2 in omega (arith, most)
-has_room long Good before (Delete doc at) legal = omega arith
-has_room long Good before (Planned plan) legal =
-    omega (arith, long plan legal.ranges, kind_room plan.kind, legal.ranges.well_cut.most, legal.ranges.word.1)
-has_room long Good before Format legal = omega arith
-has_room long Good before (Batch batch) legal =
-    let one = none_found (old_format before) (long_batch (sum_by act_length batch) ∷ acts_refusal before batch ∷ []) legal.allowed in
+has_room long before (Arrive doc at text) ranges allowed = let most = ranges.2 in omega (arith, most)
+has_room long before (Delete doc at) ranges allowed = omega arith
+has_room long before (Planned plan) ranges allowed = omega (arith, long plan ranges, kind_room plan.kind, ranges.well_cut.most, ranges.word.1)
+has_room long before Format ranges allowed = omega arith
+has_room long before (Batch batch) ranges allowed =
+    let one = none_found (old_format before) (long_batch (sum_by act_length batch) ∷ acts_refusal before batch ∷ []) allowed in
     let two = none_found (long_batch (sum_by act_length batch)) (acts_refusal before batch ∷ []) one.1 in
-    omega (arith, batch_room batch, legal.ranges.sized.1, not_long (sum_by act_length batch) two.0)
+    omega (arith, batch_room batch, ranges.sized.1, not_long (sum_by act_length batch) two.0)

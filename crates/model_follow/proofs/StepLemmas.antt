@@ -1,5 +1,5 @@
 -- Each step of the abstract archive, and each stint, leads from a state that can be followed to such a one.
-use Rattle.std.proofs.Common.{◌≡◌, ◌⊎◌, ℕ, zero, suc, ◌≤◌, Bool, true, false, nat_lt, bytes_eq, List, [], ◌∷◌, ◌++◌, length, All, Option, Some, None, inl, inr, refl, sym, subst, arith}
+use Rattle.std.proofs.Common.{◌≡◌, ℕ, zero, suc, ◌≤◌, Bool, true, false, nat_lt, bytes_eq, List, [], ◌∷◌, ◌++◌, length, All, Option, Some, None, inl, inr, refl, sym, subst, arith}
 use Rattle.std.specs.List.{AllZip, flat_map}
 use Rattle.std.specs.Option.{option_map}
 use Rattle.std.specs.Prelude.{IfSome}
@@ -9,7 +9,7 @@ use Rattle.base_types.specs.Limits.{limit_of}
 use Rattle.base_types.specs.declared.fraction.Fraction.{Fraction}
 use Rattle.base_types.specs.declared.posting.Posting.{Posting}
 use Rattle.base_types.specs.declared.time.Time.{Time}
-use Rattle.base_types.specs.declared.which.Which.TheVariants.{Journal}
+use Rattle.base_types.specs.declared.which.Which.TheVariants.{Journal, Pages}
 use Rattle.base_commands.specs.Batches.{texts_bytes}
 use Rattle.base_commands.specs.Documents.{HasDocument}
 use Rattle.base_commands.specs.declared.batch.BatchItem.{BatchItem}
@@ -52,7 +52,7 @@ use Rattle.model_archive.proofs.LiveLemmas.{live_planned}
 use Rattle.model_archive.proofs.OutcomeLemmas.{step_legal}
 use Rattle.model_archive.proofs.RunLemmas.{state_after_all}
 use Rattle.model_archive.proofs.StoringLemmas.{idle_keeps}
-use Rattle.model_follow.specs.Following.{Follows, Had, Note, Took}
+use Rattle.model_follow.specs.Following.{Had, Took}
 use Rattle.model_follow.specs.Laws.{FollowersCanBeFollowed, RunsCanBeFollowed, SamplesCanBeFollowed, StepsCanBeFollowed, StintsCanBeFollowed}
 use Rattle.model_follow.specs.Taking.{CanBeFollowed, IfJobPlaced, IfPlaced, IsPlacedApart, KeepsUp}
 use Rattle.model_follow.proofs.JobLemmas.{IfBeside, IsOther, apart_without, job_on, taken_apart}
@@ -152,12 +152,10 @@ chosen job h word kind factor horizon cuts places list can is same placed zip =
 
 plans : (job : Option Job) (h : History) (phrase : List ℕ) (kind : Kind) (factor : Fraction) (reply : Reply) (next : History) → MayBeStored h job → Both job h → IsLegal next → Plans job h phrase kind factor reply next → Both job next
 plans job h phrase kind factor reply next waits can legal =
-    of_phrase kind h (Both job next) D (λ word list. OfStill job word D (StoresPlan job h kind factor word list reply next)) (spelled_key (one_term phrase)) declined
-    (λ word list is of. still (Both job next) D (StoresPlan job h kind factor word list reply next) declined job word (λ other stores. stored word list is other stores) of)
+    of_phrase kind h (Both job next) (λ why. Declines h why reply next) (λ word list. OfStill job word (λ why. Declines h why reply next) (StoresPlan job h kind factor word list reply next))
+    (spelled_key (one_term phrase)) declined
+    (λ word list is of. still (Both job next) (λ why. Declines h why reply next) (StoresPlan job h kind factor word list reply next) declined job word (λ other stores. stored word list is other stores) of)
   where
-    D : Refusal → Type 0
-    D why = Declines h why reply next
-
     declined : (why : Refusal) → Declines h why reply next → Both job next
     declined why declines = stays job h next declines.0 can
 
@@ -168,7 +166,7 @@ plans job h phrase kind factor reply next waits can legal =
 
     stored : (word : List ℕ) (list : List Posting) → IsListUpTo h word (last_second h) list → IsOther job word → StoresPlan job h kind factor word list reply next → Both job next
     stored word list is other s = elim s.stores [
-      | inl full ↦ stays job h next full.1.0 can
+      | inl full ↦ declined (refusals.Full Pages (limit_of Pages)) full.1
       | inr fits ↦
           let (places, placed, zip, step) = fits in
           let plan = in_blocks word kind factor s.horizon s.cuts places in
@@ -180,17 +178,17 @@ plans job h phrase kind factor reply next waits can legal =
 abbrev pub BothIn : World → Type 0
 BothIn world = Both world.job world.history
 
+-- what is chosen is taken on, or there is no room for it
+abbrev pub Chooses : World → List ℕ → Fraction → List Posting → Reply → World → Type 0
+Chooses old word factor list reply new = ChoosesPlan old.job old.history Guarantee factor word list (λ why. Idles old why reply new)
+    (λ plan. TakesOn old plan (full_journal old.history (entries.Planned plan)) list reply new)
+
 begins : (old : World) (phrase : List ℕ) (factor : Fraction) (reply : Reply) (new : World) → BothIn old → Begins old phrase factor reply new → BothIn new
 begins old phrase factor reply new can =
-    of_phrase Guarantee old.history (BothIn new) D (λ word list. OfIdle old.job word D (C word list)) (spelled_key (one_term phrase)) idles
-    (λ word list is of. idle_keeps (BothIn new) D (C word list) idles (λ s. begun word list is s) old.job word of)
+    of_phrase Guarantee old.history (BothIn new) (λ why. Idles old why reply new) (λ word list. OfIdle old.job word (λ why. Idles old why reply new) (Chooses old word factor list reply new))
+    (spelled_key (one_term phrase)) idles
+    (λ word list is of. idle_keeps (BothIn new) (λ why. Idles old why reply new) (Chooses old word factor list reply new) idles (λ s. begun word list is s) old.job word of)
   where
-    D : Refusal → Type 0
-    D why = Idles old why reply new
-
-    C : List ℕ → List Posting → Type 0
-    C word list = ChoosesPlan old.job old.history Guarantee factor word list D (λ plan. TakesOn old plan (full_journal old.history (entries.Planned plan)) list reply new)
-
     idles : (why : Refusal) → Idles old why reply new → BothIn new
     idles why is = subst BothIn (sym is.0) can
 
@@ -198,9 +196,9 @@ begins old phrase factor reply new can =
     takes_on plan None list placed step = subst BothIn (sym step.0) (can.0, placed)
     takes_on plan (Some why) list placed step = subst BothIn (sym step.0) can
 
-    begun : (word : List ℕ) (list : List Posting) → IsListUpTo old.history word (last_second old.history) list → C word list → BothIn new
+    begun : (word : List ℕ) (list : List Posting) → IsListUpTo old.history word (last_second old.history) list → Chooses old word factor list reply new → BothIn new
     begun word list is s = elim s.stores [
-      | inl full ↦ subst BothIn (sym full.1.0) can
+      | inl full ↦ idles (refusals.Full Pages (limit_of Pages)) full.1
       | inr fits ↦
           let (places, placed, zip, step) = fits in
           let plan = in_blocks word Guarantee factor s.horizon s.cuts places in
@@ -287,13 +285,10 @@ behind true next (work ∷ outcomes) Rest keeps on is zero = keeps
 behind true next (work ∷ outcomes) Rest keeps on is (suc j) = on work.next outcomes (stints next work.reply work.next keeps is.0) is.1 j
 
 run_with : (world : World) (list : List Item) (outcomes : List (Outcome Reply World)) → KeepsUp world → All HasDocument list → IsRunWith Step Works at_work world list outcomes → (j : ℕ) → KeepsUp (state_after world outcomes j)
-run_with world [] outcomes keeps has run j = subst (λ (os : List (Outcome Reply World)). KeepsUp (state_after world os j)) (sym run) (none j)
-  where
-    none : (j : ℕ) → KeepsUp (state_after world [] j)
-    none zero = keeps
-    none (suc j) = keeps
-run_with world (item ∷ list) [] keeps has run j = absurd run
-run_with world (item ∷ list) (o ∷ outcomes) keeps has run zero = keeps
+run_with world list outcomes keeps has run zero = keeps
+run_with world [] [] keeps has run (suc j) = keeps
+run_with world [] (o ∷ outcomes) keeps has run (suc j) = absurd cc
+run_with world (item ∷ list) [] keeps has run (suc j) = absurd run
 run_with world (item ∷ list) (o ∷ outcomes) keeps has run (suc j) =
     behind (at_work world) o.next outcomes (λ s rest. IsRunWith Step Works at_work s list rest) (steps world item o.reply o.next keeps (All-head HasDocument item list has) run.0)
     (λ s rest good is k. run_with s list rest good (All-tail HasDocument item list has) is k) run.1 j

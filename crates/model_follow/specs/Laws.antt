@@ -1,15 +1,14 @@
 -- What holds of archives that follow others.
-use Rattle.std.specs.Prelude.{◌≡◌, ℕ, ◌+◌, ◌≤◌, Bool, true, List, [], ◌++◌, length, All, Option}
+use Rattle.std.specs.Prelude.{◌≡◌, ℕ, ◌+◌, ◌≤◌, Bool, true, List, ◌++◌, length, All, Option, None}
 use Rattle.base_commands.specs.Documents.{HasDocument}
 use Rattle.base_commands.specs.declared.command.Item.{Item}
-use Rattle.journal_entries.specs.Spelling.{spelling}
+use Rattle.journal_entries.specs.Spelling.{spelling, IsEntry}
 use Rattle.journal_entries.specs.declared.entry.Entry.{Entry}
 use Rattle.journal_packets.specs.Packets.{Framed, IsFramed, first, most_body}
 use Rattle.journal_packets.specs.Streams.{IsPacketOf, IsStreamOf, export, stream}
 use Rattle.journal_packets.specs.declared.first.First.TheVariants.{Bad}
-use Rattle.model_archive.specs.Histories.{History}
-use Rattle.plans_kinds.specs.Plans.{Asks}
-use Rattle.model_archive.specs.Legal.{IsLegal, MayCome}
+use Rattle.model_archive.specs.Histories.{History, entry_refusal}
+use Rattle.model_archive.specs.Legal.{IsLegal}
 use Rattle.model_archive.specs.Runs.{Outcome, AreStints, IsRun, IsRunWith, state_after}
 use Rattle.model_archive.specs.Standing.{last_state}
 use Rattle.model_archive.specs.Stands.{bodies_of}
@@ -22,7 +21,7 @@ use Rattle.model_follow.specs.Following.{Note, Follows, BeginWith, CannotBeTaken
 
 -- A packet has room for each entry that may come after a history, whatever is asked of plans.
 abbrev pub SpellingsHaveRoom : Type 0
-SpellingsHaveRoom = (Good : Asks) (before : History) (entry : Entry) → MayCome Good before entry → length (spelling entry) ≤ most_body
+SpellingsHaveRoom = (before : History) (entry : Entry) → IsEntry entry → entry_refusal before entry ≡ None → length (spelling entry) ≤ most_body
 
 -- A history that can be followed is legal.
 abbrev pub FollowedAreLegal : Type 0

@@ -1,11 +1,11 @@
 -- Pushes, and reads between them, one after another.
-use Rattle.std.proofs.Common.{◌≡◌, List, ℕ, [], ◌++◌, ap, sym, subst, ◌∙◌, append_assoc}
+use Rattle.std.proofs.Common.{◌≡◌, List, ℕ, [], ◌++◌, refl, ap, sym, subst, ◌∙◌, append_assoc}
 use Rattle.std.proofs.lemmas.List.{append-nil}
 use Rattle.machine_model.specs.Areas.{Bytes}
 use Rattle.machine_model.specs.Calls.{OnlyReads}
 use Rattle.machine_model.specs.Images.{MayLeave}
 use Rattle.machine_model.specs.Moments.{LeftSince}
-use Rattle.machine_model.specs.Pushes.{IsPrefix, OnlyShows}
+use Rattle.machine_model.specs.Pushes.{IsPrefix, IsSameBeside, OnlyShows}
 use Rattle.machine_model.specs.States.{DiskState, moment}
 use Rattle.machine_model.proofs.MomentLemmas.{allowed_left, goes_on_joins, goes_on_reads, joined, since_now}
 
@@ -32,11 +32,15 @@ shows_join a b c s t u one more =
 pub reads_show : (a b : DiskState) (s : List ℕ) → OnlyReads a b → a.now.beside ≡ s → OnlyShows a b s s
 reads_show a b s reads same = record {
   goes_on = goes_on_reads a b reads;
-  grows = same_prefix s s (same_prefix_of s);
+  grows = same_prefix s s refl;
   since = λ image beside left.
       let was = since_now a image beside (subst (λ (d : DiskState). LeftSince d (moment a) image beside) reads left) in
       (was.0, same_prefix s beside (sym (was.1 ∙ same)), same_prefix beside s (was.1 ∙ same));
 }
-  where
-    same_prefix_of : (l : List ℕ) → l ≡ l
-    same_prefix_of l = λ i. l
+
+-- reads, and pushes behind them, leave what the disk has
+pub reads_hold : (old new : DiskState) → OnlyReads old new → new.holds ≡ old.holds
+reads_hold old new reads = ap (λ (d : DiskState). d.holds) reads
+
+pub same_holds : (old mid new : DiskState) → OnlyReads old mid → IsSameBeside mid new → new.holds ≡ old.holds
+same_holds old mid new reads same = ap (λ (d : DiskState). d.holds) same.same ∙ reads_hold old mid reads

@@ -1,14 +1,22 @@
 -- An export as it goes on, and at its end.
-use Rattle.std.proofs.Common.{◌≡◌, ℕ, ◌+◌, ◌-◌, ◌≤◌, List, [], ◌∷◌, ◌++◌, length, take, All, Some, refl, ap, sym, subst, ◌∙◌, arith, append_assoc}
+use Rattle.std.proofs.Common.{◌≡◌, ℕ, zero, suc, ◌+◌, ◌-◌, ◌≤◌, List, [], ◌∷◌, ◌++◌, length, take, drop, All, Some, Result, Err, IsOk, inl, inr, refl, ap, sym, subst, ◌∙◌, arith, append_assoc}
 use Rattle.std.specs.Prelude.{slice_get}
+use Rattle.std.specs.Result.{is_ok}
+use Rattle.std.proofs.lemmas.Bool.{false≢true}
 use Rattle.std.proofs.lemmas.List.{append-nil, append_cancel_left}
-use Rattle.std.proofs.lemmas.List.Elements.{All-nil, All-cons}
+use Rattle.std.proofs.lemmas.List.Elements.{All-nil, All-cons, All-head, All-tail}
+use Rattle.std.proofs.lemmas.Option.{slice_get_cases}
+use Rattle.machine_model.specs.Areas.{Bytes}
 use Rattle.machine_model.specs.Calls.{OnlyReads}
 use Rattle.machine_model.specs.Moments.{GoesOn, LeavesOnly}
 use Rattle.machine_model.specs.Pushes.{IsPrefix, OnlyShows}
 use Rattle.machine_model.specs.States.{DiskState, SinkState}
 use Rattle.machine_model.proofs.MomentLemmas.{goes_on_joins, joined}
+use Rattle.journal_gates.specs.declared.head.Head.{Head}
+use Rattle.journal_gates.specs.Records.{first_gate}
+use Rattle.journal_gates.proofs.HeadLemmas.{length_heads}
 use Rattle.journal_entries.specs.Spelling.{spelling}
+use Rattle.journal_bodies.specs.Numbered.{AreIn, LiesAt, NumberedState}
 use Rattle.journal_packets.specs.Packets.{most_body, packet_bytes}
 use Rattle.journal_packets.specs.Streams.{export, stream}
 use Rattle.plans_kinds.specs.Plans.{IsFitFor}
@@ -24,7 +32,35 @@ use Rattle.run_follow.proofs.PacketLemmas.{export_all, export_front, export_more
 pub all_short : SpellingsHaveRoom → (before h : History) → EachMayCome IsFitFor before h → All (λ (body : List ℕ). length body ≤ most_body) (bodies_of h)
 all_short room before [] each = All-nil (λ (body : List ℕ). length body ≤ most_body)
 all_short room before (e ∷ h) each =
-    All-cons (λ (body : List ℕ). length body ≤ most_body) (spelling e) (bodies_of h) (room IsFitFor before e each.0) (all_short room (before ++ e ∷ []) h each.1)
+    All-cons (λ (body : List ℕ). length body ≤ most_body) (spelling e) (bodies_of h) (room before e each.0.ranges each.0.allowed) (all_short room (before ++ e ∷ []) h each.1)
+
+-- a body of a number is one of these
+pub short_at : (all : List (List ℕ)) (k : ℕ) (body : List ℕ) → All (λ (b : List ℕ). length b ≤ most_body) all → slice_get all k ≡ Some body → length body ≤ most_body
+short_at [] k body short is = absurd cc
+short_at (b ∷ all) zero body short is = let same : b ≡ body = cc in subst (λ (x : List ℕ). length x ≤ most_body) same (All-head (λ (x : List ℕ). length x ≤ most_body) b all short)
+short_at (b ∷ all) (suc k) body short is = short_at all k body (All-tail (λ (x : List ℕ). length x ≤ most_body) b all short) is
+
+-- there are as many heads as bodies
+pub as_many : (journal : List ℕ) (all : List (List ℕ)) (n : NumberedState) → AreIn journal all n → length n.heads ≡ length all
+as_many journal all n are = ap (λ (heads : List Head). length heads) are.heads_are ∙ length_heads first_gate all
+
+pub body_of : (journal : List ℕ) (all : List (List ℕ)) (n : NumberedState) (number : ℕ) → AreIn journal all n → 1 ≤ number → number ≤ length n.heads → (body : List ℕ) × (slice_get all (number - 1) ≡ Some body)
+body_of journal all n number are some within = elim (slice_get_cases all (number - 1)).1 [
+  | inl found ↦ (found.0, found.2)
+  | inr past ↦ absurd (omega (arith, some, within, as_many journal all n are, past.0))
+]
+
+-- what lies where a head says is the body of the number
+pub lies_is : (journal : List ℕ) (all : List (List ℕ)) (number : ℕ) (head : Head) (body : List ℕ) → LiesAt journal all number head → body ≡ take head.bytes (drop head.body journal) → slice_get all (number - 1) ≡ Some body
+lies_is journal all number head body lies same = lies ∙ ap Some (sym same)
+
+-- the same bodies are in the same journal
+pub are_still : (old new : Bytes) (all : List (List ℕ)) (n : NumberedState) → new ≡ old → AreIn old.journal all n → AreIn new.journal all n
+are_still old new all n same are = subst (λ (b : Bytes). AreIn b.journal all n) (sym same) are
+
+-- what failed isn't done
+pub not_ok : {T E : Type 0} (r : Result T E) (y : E) → r ≡ Err y → IsOk r → ⊥
+not_ok r y is ok = false≢true (sym (ap is_ok is) ∙ ok)
 
 -- ---- a packet
 
@@ -45,6 +81,17 @@ packet_shown all number done body output output_now old mid new is reads beside 
   whole = λ well. append_cancel_left output.shown shows.grows.0 (packet_bytes number body) (sym shows.grows.1 ∙ whole well);
   beside = shows_join old mid new output.shown output.shown output_now.shown (reads_show old mid output.shown reads beside) shows;
 }
+
+-- the same, where the sink was as it was, and the piece that was shown is the packet
+pub packet_by : (all : List (List ℕ)) (number : ℕ) (done : Type 0) (body piece : List ℕ) (output between output_now : SinkState) (old mid new : DiskState) → slice_get all (number - 1) ≡ Some body
+    → OnlyReads old mid → old.now.beside ≡ output.shown → between ≡ output → piece ≡ packet_bytes number body → OnlyShows mid new between.shown output_now.shown
+    → IsPrefix output_now.shown (between.shown ++ piece) → (done → output_now.shown ≡ between.shown ++ piece) → ShowsPacket all number done output output_now old new
+packet_by all number done body piece output between output_now old mid new is reads beside same spelled shows front whole =
+    let Q : SinkState → List ℕ → Type 0 =
+    λ s l. OnlyShows mid new s.shown output_now.shown × IsPrefix output_now.shown (s.shown ++ l) × (done → output_now.shown ≡ s.shown ++ l) in
+    let one : Q output piece = subst (λ (s : SinkState). Q s piece) same (shows, front, whole) in
+    let all_of : Q output (packet_bytes number body) = subst (λ (l : List ℕ). Q output l) spelled one in
+    packet_shown all number done body output output_now old mid new is reads beside all_of.0 all_of.1 all_of.2
 
 -- nothing was shown of it
 pub packet_unshown : (all : List (List ℕ)) (number : ℕ) (done : Type 0) (body : List ℕ) (output output_now : SinkState) (old new : DiskState) → slice_get all (number - 1) ≡ Some body
@@ -109,6 +156,30 @@ shows_all all from place done output output_now old new past before =
       whole = λ well. refl;
       beside = before.beside;
     }
+
+-- reads in front show nothing
+pub shows_behind : (all : List (List ℕ)) (from : ℕ) (done : Type 0) (output between output_now : SinkState) (old mid new : DiskState) → OnlyReads old mid → old.now.beside ≡ output.shown
+    → between ≡ output → Shows all from done between output_now mid new → Shows all from done output output_now old new
+shows_behind all from done output between output_now old mid new reads beside same shows =
+    let s : Shows all from done output output_now mid new = subst (λ (t : SinkState). Shows all from done t output_now mid new) same shows in
+    record {
+      shown = s.shown;
+      shown_is = s.shown_is;
+      front = s.front;
+      whole = s.whole;
+      beside = shows_join old mid new output.shown output.shown output_now.shown (reads_show old mid output.shown reads beside) s.beside;
+    }
+
+-- reads alone, and nothing was shown
+pub shows_none : (all : List (List ℕ)) (from : ℕ) (done : Type 0) (output output_now : SinkState) (old new : DiskState) → OnlyReads old new → old.now.beside ≡ output.shown → output_now ≡ output
+    → (done → ⊥) → Shows all from done output output_now old new
+shows_none all from done output output_now old new reads beside same never = record {
+  shown = [];
+  shown_is = ap (λ (s : SinkState). s.shown) same ∙ sym (append-nil output.shown);
+  front = (stream (export from all), refl);
+  whole = λ well. absurd (never well);
+  beside = subst (λ (s : SinkState). OnlyShows old new output.shown s.shown) (sym same) (reads_show old new output.shown reads beside);
+}
 
 -- ---- a whole export
 

@@ -21,7 +21,9 @@ numbered_nth n (b ∷ bodies) (suc k) body e = numbered_nth (n + 1) bodies k bod
 drop_nth : {X : Type 0} (j k : ℕ) (xs : List X) → slice_get (drop j xs) k ≡ slice_get xs (j + k)
 drop_nth zero k xs = ap (slice_get xs) (omega arith)
 drop_nth (suc j) k [] = refl
-drop_nth (suc j) k (x ∷ xs) = drop_nth j k xs ∙ ap (slice_get (x ∷ xs)) (omega arith)
+drop_nth (suc j) k (x ∷ xs) =
+    let e : suc (j + k) ≡ suc j + k = omega arith in
+    drop_nth j k xs ∙ ap (slice_get (x ∷ xs)) e
 
 length_numbered : (n : ℕ) (bodies : List (List ℕ)) → length (numbered n bodies) ≡ length bodies
 length_numbered n [] = refl
@@ -34,11 +36,11 @@ export_more from all place body begun is =
     let k = place - (from - 1) in
     let p : Framed = record { number = place + 1; body = body } in
     let here : slice_get (export from all) k ≡ Some p =
-        drop_nth (from - 1) k (numbered 1 all) ∙ ap (slice_get (numbered 1 all)) (omega (arith, begun)) ∙ numbered_nth 1 all place body is
-        ∙ ap (λ (m : ℕ). Some (record { number = m; body = body })) (omega arith) in
+    drop_nth (from - 1) k (numbered 1 all) ∙ ap (slice_get (numbered 1 all)) (omega (arith, begun)) ∙ numbered_nth 1 all place body is
+    ∙ ap (λ (m : ℕ). Some (record { number = m; body = body })) (omega arith) in
     let more : take (k + 1) (export from all) ≡ take k (export from all) ++ p ∷ [] =
-        take_more (export from all) k p (slice_get_within (export from all) k p here)
-        ∙ ap (λ (q : Framed). take k (export from all) ++ q ∷ []) (get_or_from_slice_get (export from all) k p p here) in
+    take_more (export from all) k p (slice_get_within (export from all) k p here)
+    ∙ ap (λ (q : Framed). take k (export from all) ++ q ∷ []) (get_or_from_slice_get (export from all) k p p here) in
     ap (λ (m : ℕ). stream (take m (export from all))) (omega (arith, begun)) ∙ ap stream more ∙ stream_more (take k (export from all)) (p ∷ [])
     ∙ ap (λ (l : List ℕ). stream (take k (export from all)) ++ l) (append-nil (packet_bytes (place + 1) body))
 
@@ -50,8 +52,8 @@ export_front from all place body part begun is front =
     let n = place + 1 - (from - 1) in
     let behind = stream (drop n (export from all)) in
     let whole : stream (export from all) ≡ (before ++ packet_bytes (place + 1) body) ++ behind =
-        ap stream (sym (take-append-drop n (export from all))) ∙ stream_more (take n (export from all)) (drop n (export from all))
-        ∙ ap (λ (l : List ℕ). l ++ behind) (export_more from all place body begun is) in (
+    ap stream (sym (take-append-drop n (export from all))) ∙ stream_more (take n (export from all)) (drop n (export from all))
+    ∙ ap (λ (l : List ℕ). l ++ behind) (export_more from all place body begun is) in (
       front.0 ++ behind,
       whole ∙ ap (λ (l : List ℕ). (before ++ l) ++ behind) front.1 ∙ ap (λ (l : List ℕ). l ++ behind) (sym (append_assoc before part front.0))
           ∙ append_assoc (before ++ part) front.0 behind,
@@ -63,4 +65,6 @@ export_all from all place past =
     take_all (place - (from - 1)) (export from all) (omega (arith, past, length-drop (from - 1) (numbered 1 all), length_numbered 1 all))
 
 pub none_yet : (from : ℕ) (all : List (List ℕ)) → take (from - 1 - (from - 1)) (export from all) ≡ []
-none_yet from all = ap (λ (m : ℕ). take m (export from all)) (omega arith)
+none_yet from all =
+    let e : from - 1 - (from - 1) ≡ 0 = omega arith in
+    ap (λ (m : ℕ). take m (export from all)) e

@@ -1,4 +1,4 @@
-use Rattle.std.proofs.Common.{◌≡◌, ℕ, ◌∙◌, List, [], length, inl, ap, refl, sym, subst}
+use Rattle.std.proofs.Common.{None, ◌≡◌, ℕ, ◌∙◌, List, [], length, inl, ap, refl, sym, subst}
 use Rattle.std.proofs.lemmas.Result.{IfOk-weaker, err_from_is_err_and}
 use Rattle.machine_model.specs.declared.area.Area.TheVariants.{Pages}
 use Rattle.journal_gates.specs.Spelled.{Spells}

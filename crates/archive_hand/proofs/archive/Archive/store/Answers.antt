@@ -1,14 +1,21 @@
-use Rattle.std.proofs.Common.{ℕ, ◌+◌, List, ◌∷◌, [], ◌++◌, true, inl, inr, refl, ap, sym, subst, ◌∙◌, arith, rules}
+use Rattle.std.proofs.Common.{◌≡◌, ℕ, ◌+◌, List, ◌∷◌, [], ◌++◌, Option, true, inl, inr, refl, ap, sym, subst, ◌∙◌, arith, rules}
+use Rattle.std.specs.List.{AllZip}
 use Rattle.machine_model.specs.declared.area.Area.TheVariants.{Journal, Pages}
 use Rattle.journal_entries.specs.declared.entry.Entry.TheVariants as entries
 use Rattle.lists_index.specs.Indexes.{seen, state_of}
 use Rattle.pages_area.specs.Caches.{Kept, StandsFor as IsCacheOf}
 use Rattle.pages_area.specs.Taken.{HasTaken}
+use Rattle.pages_sublists.specs.Paged.{ReachPages}
+use Rattle.pages_sublists.specs.Preparing.{IsFor, extents}
 use Rattle.model_archive.specs.declared.stored.StoredPlan.{StoredPlan}
 use Rattle.model_archive.specs.Histories.{History}
 use Rattle.model_archive.specs.Plans.{with_plan, live_extents}
 use Rattle.archive_hand.specs.Adding.{HasSameShelf}
 use Rattle.model_archive.specs.Stands.{bodies_of}
+use Rattle.model_archive.specs.Worlds.{Job as ModelJob, taken_in}
+use Rattle.archive_hand.specs.Jobs.{places_of, plain_job, written_of}
+use Rattle.archive_hand.specs.Storing.{IsStoredAs}
+use Rattle.archive_hand.specs.declared.job.Job.{Job}
 use Rattle.archive_hand.specs.States.{ArchiveState, StandsFor, IsSound, AreInStepBy, with_entry}
 use Rattle.archive_plans.specs.Shelves.{extents_all}
 use Rattle.archive_plans.specs.Readying.{IsFull, tells_of}
@@ -17,6 +24,7 @@ use Rattle.archive_hand.proofs.GiveUpLemmas.{given_up_cached, given_up_refused}
 use Rattle.archive_hand.proofs.ByReadsLemmas.{all_same, same_as}
 use Rattle.archive_hand.proofs.PutLemmas.{begun_keeps, put_there}
 use Rattle.archive_hand.proofs.CacheLemmas.{cached_on, is_sound, stands_live}
+use Rattle.archive_hand.proofs.JobLemmas.{both_stand, kept_part, reach_on, taken_same, under_way_more, written_apart, written_part}
 use Rattle.archive_hand.proofs.StoreLemmas.{ready_storable, ready_stored, stands_planned, placed_inside, same_shelf, stands_still}
 use Rattle.archive_hand.proofs.archive.Archive.store.Given.{Over}
 use Rattle.archive_hand.proofs.archive.Archive.store.Goals as goal
@@ -40,6 +48,14 @@ returns-in-Err-clause-cached g c = λ tells cached is.
     given_up_cached c.in-Err.why c.give_up.result _ c.give_up.new.self disk c.give_up.ensures
     (cached_on (c.args.self.now.shelf.cache ++ written_of c.args.self.now.job) (c.make_ready.new.shelf.cache ++ written_of c.self.inside.job) disk disk
     (ap (λ (ks : List Kept). ks ++ written_of c.self.inside.job) c.in-Err.ensures.cache ∙ ap (λ (s : ArchiveState). s.shelf.cache ++ written_of s.job) c.self.view_is) refl cached)
+
+-- its pages are taken beside those of the live plans, and of a plan that is being written
+pub write_ready-requires-clause-taken : goal.write_ready-requires-clause-taken
+write_ready-requires-clause-taken g c =
+    let stands = c.self.invariant.2.1 in (
+      places_of c.self.inside.job,
+      subst (λ (l : List StoredPlan). HasTaken c.make_ready.new.shelf.pages (extents c.in-Ok.ready.prepared.places ++ (places_of c.self.inside.job ++ extents_all l))) (sym (c.in-Ok.ensures.plans ∙ stands.plans_are)) (c.in-Ok.ensures.taken _ stands.pages_are),
+    )
 
 -- the archive with the plan
 abbrev after : (g : Over) (c : goal.After-self-in-Ok-write_ready-2-1 g) → ArchiveState
