@@ -1,9 +1,14 @@
 -- What is said of an archive that takes an entry from another one.
-use Rattle.std.specs.Prelude.{◌≡◌, ◌⊎◌, ◌↔◌, ℕ, ◌+◌, ◌≤◌, List, [], ◌∷◌, ◌++◌, length, All, Option, Some, None, Result, Ok, Err, IfOk, IfSome, IsOk, IsTrue}
+use Rattle.std.specs.Prelude.{◌≡◌, ◌⊎◌, ◌↔◌, ℕ, ◌+◌, ◌<◌, ◌≤◌, List, [], ◌∷◌, ◌++◌, length, Option, Some, None, Result, Ok, Err, IfOk, IfSome, IsSomeAnd, IsOk, IsTrue}
 use Rattle.machine_model.specs.Causes.{Rose}
 use Rattle.machine_model.specs.States.{DiskState}
 use Rattle.base_types.specs.declared.posting.Posting.{Posting}
+use Rattle.base_commands.specs.declared.batch.BatchItem.{BatchItem}
+use Rattle.base_commands.specs.declared.batch.BatchItem.TheVariants as members
+use Rattle.base_commands.specs.declared.text.Text.TheVariants as texts
 use Rattle.journal_entries.specs.Spelling.{spelling, IsEntry}
+use Rattle.journal_entries.specs.declared.act.Act.{Act}
+use Rattle.journal_entries.specs.declared.act.Act.TheVariants as acts
 use Rattle.journal_entries.specs.declared.entry.Entry.{Entry}
 use Rattle.journal_entries.specs.declared.entry.Entry.TheVariants.{Planned}
 use Rattle.journal_entries.specs.declared.place.Place.{Place}
@@ -18,6 +23,8 @@ use Rattle.archive_hand.specs.States.{ArchiveState, AreInStepBy, CacheStands, Re
 use Rattle.archive_hand.specs.Stored.{Store, Stocks}
 use Rattle.archive_hand.specs.declared.error.ChangeError.{ChangeError}
 use Rattle.archive_hand.specs.declared.error.ChangeError.TheVariants as changes
+use Rattle.archive_hand.specs.declared.storing_at.PutError.{PutError}
+use Rattle.archive_hand.specs.declared.storing_at.PutError.TheVariants as puts
 use Rattle.model_follow.specs.Taking.{SpellsNext}
 use Rattle.archive_follow.specs.declared.error.TakeEntryError.{TakeEntryError}
 use Rattle.archive_follow.specs.declared.error.TakeEntryError.TheVariants as takes
@@ -78,17 +85,36 @@ as_taken (Err (changes.Refused why)) = Err takes.NotNext
 as_taken (Err changes.Failed) = Err takes.Failed
 as_taken (Err changes.Memory) = Err takes.Memory
 
+-- an act as an item of a batch
+abbrev pub item_by : Act → BatchItem
+item_by (acts.Arrive doc at text) = members.Arrive doc at (texts.Bytes text)
+item_by (acts.Delete doc at) = members.Delete doc at
+
+-- how storing a plan in its own places ends: where they can't be taken, it may not come next
+abbrev pub as_put : Result ℕ PutError → Result ℕ TakeEntryError
+as_put (Ok n) = Ok n
+as_put (Err puts.NoRoom) = Err takes.NotNext
+as_put (Err puts.Failed) = Err takes.Failed
+as_put (Err puts.Memory) = Err takes.Memory
+
 -- a place without bytes is at page 0
 abbrev pub IsProper : Place → Type 0
 IsProper place = place.extent.bytes ≡ 0 → place.extent.first ≡ 0
 
--- A plan may come next but for its places and the journal's room: it is legal, its list is this one, its horizon isn't before that of the word's live
--- plan, and a place without bytes is at page 0.
+-- a plan's horizon isn't before that of its word's live plan
+abbrev pub IsNotBefore : History → PlanEntry → Type 0
+IsNotBefore history plan = IfSome (plan_of history plan.word) (λ live. live.horizon.seconds ≤ plan.horizon.seconds)
+
+-- it is before that
+abbrev pub IsBeforeLive : History → PlanEntry → Type 0
+IsBeforeLive history plan = IsSomeAnd (plan_of history plan.word) (λ live. plan.horizon.seconds < live.horizon.seconds)
+
+-- A plan may come next but for its places and the journal's room: it is legal, its list is this one, and its horizon isn't before that of the word's
+-- live plan.
 pub record MayBePut (history : History) (plan : PlanEntry) (list : List Posting) : Type 0 where
   pub legal : IsLegalEntry history (Planned plan)
   pub list_is : IsListUpTo history plan.word plan.horizon.seconds list
-  pub later : IfSome (plan_of history plan.word) (λ live. live.horizon.seconds ≤ plan.horizon.seconds)
-  pub proper : All IsProper plan.places
+  pub later : IsNotBefore history plan
 
 -- what is found of a plan: the list of its word up to its horizon, where it may come next but for places and room
 abbrev pub IsFoundOf : History → PlanEntry → Option (List Posting) → Type 0

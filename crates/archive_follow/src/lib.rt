@@ -8,6 +8,7 @@
 #![tactic(auto)]
 
 mod batching;
+mod changing;
 mod error;
 mod planning;
 mod taking;

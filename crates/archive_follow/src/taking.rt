@@ -3,14 +3,14 @@ ghost use Rattle.std.specs.Prelude.{◌≡◌, None, IsTrue};
 ghost use Rattle.model_archive.specs.Histories.{History};
 ghost use Rattle.archive_hand.specs.States.{AreInStepBy, Reaches, StandsFor};
 ghost use Rattle.archive_hand.specs.Stored.{Store};
-ghost use Rattle.archive_follow.specs.Taken.{AfterTaking, TakesBody, TakesBy, as_taken};
+ghost use Rattle.archive_follow.specs.Taken.{AfterTaking, TakesBody, TakesBy};
 
 use crate::batching::take_batch;
+use crate::changing::{take_arrival, take_deletion, take_mark};
 use crate::error::TakeEntryError;
 use crate::planning::take_plan;
-use archive_changes::{arrive, delete, mark_format};
 use archive_entries::Declined;
-use archive_hand::{Archive, ChangeError};
+use archive_hand::Archive;
 use journal_entries::{CodecError, Entry, decode};
 use machine_model::Disk;
 use std::alloc::Global;
@@ -44,29 +44,15 @@ pub fn take_entry<D: Disk>(
         → TakesBy s body.now result (D.disk disk.old) (D.disk disk.new) archive.new }
 {
     match decode(alloc, body) {
-        Ok(Entry::Arrive { doc, at, text }) => {
-            taken(arrive(alloc, disk, archive, doc, at, text.as_str().as_bytes()))
-        }
-        Ok(Entry::Delete { doc, at }) => taken(delete(alloc, disk, archive, doc, at)),
-        Ok(Entry::Format) => taken(mark_format(alloc, disk, archive)),
-        Ok(Entry::Batch(acts)) => take_batch(alloc, disk, archive, acts),
+        Ok(Entry::Arrive { doc, at, text }) => take_arrival(alloc, disk, archive, doc, at, &text),
+        Ok(Entry::Delete { doc, at }) => take_deletion(alloc, disk, archive, doc, at),
+        Ok(Entry::Format) => take_mark(alloc, disk, archive),
+        Ok(Entry::Batch(acts)) => take_batch(alloc, disk, archive, &acts),
         Ok(Entry::Planned(plan)) => take_plan(alloc, disk, archive, plan, body),
         Err(CodecError::Form { .. }) => Err(TakeEntryError::NotNext),
         Err(CodecError::Memory) => {
             archive.give_up(Declined::Memory);
             Err(TakeEntryError::Memory)
         }
-    }
-}
-
-/// What comes of an entry by what came of the change that it makes.
-fn taken(made: Result<u64, ChangeError>) -> Result<u64, TakeEntryError>
-    ensures { result ≡ as_taken made }
-{
-    match made {
-        Ok(length) => Ok(length),
-        Err(ChangeError::Refused(_)) => Err(TakeEntryError::NotNext),
-        Err(ChangeError::Failed) => Err(TakeEntryError::Failed),
-        Err(ChangeError::Memory) => Err(TakeEntryError::Memory),
     }
 }

@@ -1,7 +1,6 @@
 //! A plan of another archive is stored in its own places.
 ghost use Rattle.std.specs.Prelude.{◌≡◌, ◌⊎◌, ◌↔◌, ◌+◌, ◌<◌, ◌^◌, ◌++◌, ◌∷◌, [], length, All, IsTrue, IfOk, IsErrOf, IsOk};
 ghost use Rattle.machine_model.specs.Causes.{Rose};
-ghost use Rattle.lists_postings.specs.Lists.{IsList};
 ghost use Rattle.journal_entries.specs.PlanSpelling.{plan_spelling};
 ghost use Rattle.journal_entries.specs.declared.entry.Entry.TheVariants as entries;
 ghost use Rattle.journal_entries.specs.declared.place.Place.{Place as PlainPlace};
@@ -15,7 +14,7 @@ ghost use Rattle.archive_hand.specs.Changing.{KeepsBy};
 ghost use Rattle.archive_hand.specs.Jobs.{plain_job};
 ghost use Rattle.archive_hand.specs.States.{AreInStepBy, CacheStands, Reaches, StandsFor};
 ghost use Rattle.archive_hand.specs.Stored.{Store};
-ghost use Rattle.archive_hand.specs.StoringAt.{IsPutBy};
+ghost use Rattle.archive_hand.specs.StoringAt.{HasOwnPlaces, IsPutBy};
 
 use crate::archive::Archive;
 use crate::storing::write_ready;
@@ -54,7 +53,6 @@ impl Archive {
     ) -> Result<u64, PutError>
         requires live { IsTrue self.old.live }
         requires within { Reaches (D.disk disk.old).reach self.old }
-        requires list { IsList list.now }
         requires as_many { length plan.places ≡ length plan.cuts }
         requires proper { All (λ (p : PlainPlace). p.extent.bytes ≡ 0 → p.extent.first ≡ 0) plan.places }
         requires spelled { body.now ≡ plan_spelling plan }
@@ -73,6 +71,8 @@ impl Archive {
         ensures idle { self.new.job ≡ self.old.job }
         ensures refused { (h : History) → StandsFor self.old h → IsErrOf result PutError.NoRoom
             → IsUntaken plan list.now (taken_in (plain_job self.old.job) h) self.old.end (length body.now) × StandsFor self.new h }
+        ensures placed { (h : History) → StandsFor self.old h → (IsOk result ⊎ IsErrOf result PutError.Failed)
+            → HasOwnPlaces (plain_job self.old.job) h plan list.now }
         ensures stores { (h : History) → StandsFor self.old h
             → IfOk result (λ n. StandsFor self.new (h ++ entries.Planned plan ∷ []) × (n ≡ length h + 1)) }
         // By what reads give, whatever lies in Pages: at Ok the plan comes behind the history; where the disk failed, all is as it was, or it does.
@@ -81,8 +81,10 @@ impl Archive {
             × (IsPutBy s next plan (D.disk disk.old) (D.disk disk.new) × AreInStepBy (D.disk disk.new) self.new next)) }
         ensures stops { D.disk_tells → (s : Store) → AreInStepBy (D.disk disk.old) self.old s → IsErrOf result PutError.Failed →
             KeepsBy s (D.disk disk.old) (D.disk disk.new) ⊎ ((next : Store) × IsPutBy s next plan (D.disk disk.old) (D.disk disk.new)) }
-        ensures stays { (h : History) → StandsFor self.old h → IsErrOf result PutError.NoRoom ⊎ IsErrOf result PutError.Memory
-            → StandsFor self.new h }
+        ensures kept { D.disk_tells → (s : Store) → AreInStepBy (D.disk disk.old) self.old s → IsErrOf result PutError.NoRoom
+            → AreInStepBy (D.disk disk.new) self.new s }
+        ensures starved { D.disk_tells → (s : Store) → AreInStepBy (D.disk disk.old) self.old s → IsErrOf result PutError.Memory
+            → KeepsBy s (D.disk disk.old) (D.disk disk.new) }
     {
         let ready = match ready_at(
             alloc,
