@@ -51,7 +51,7 @@ NO_COMMANDS = [
     b"find", b"find 10", b"find 10 \xc3\x28", b"between 5 5 red", b"between 7 3 red", b"between 1 2", b"plan", b"plan red",
     b"plan red guarantee", b"plan red space 2/1", b"plan red space 2/1 since", b"plan red space 2/1 uniform 3", b"plan \xff guarantee 2/1",
     b"propose red", b"propose red space 2/1 uniform", b"certificate", b"certificate red blue", b"verify now", b"\r", b"\0", b"\xff\xfe",
-    b"begin red guarantee 2/1", b"format", b"format 02", b"top 0 10 red", b"top 1000001 10 red", b"top 3 10", b"top 3.0 10 red",
+    b"begin red", b"begin red guarantee", b"begin red space 2/1 uniform", b"format", b"format 02", b"top 0 10 red", b"top 1000001 10 red", b"top 3 10", b"top 3.0 10 red",
     b"best 0 10 red", b"best 1001 10 red", b"best 3 10", b"best 3 10 \xff", b"best -1 10 red", b"best red",
     b"approx red", b"approx red blue 1/2", b"approx red 2/2", b"rough 1/2 10", b"rough 2/1 10 red", b"rough 10 red",
     b"share 17/1 red", b"share 33/2 red", b"share 1/2 red", b"share 2/1", b"share", b"share red 2/1", b"share 2/1 red \xff",
@@ -189,7 +189,8 @@ class Writer:
             return b"show %b %b" % (self.document(), self.asked_time())
         word = self.chance.choice(["red-blue", "!", "red^2", "red'"]) if self.is_one_in(20) else self.word()
         if kind < 78:
-            return b"plan %b guarantee %b" % (word.encode(), self.factor())
+            name = b"begin" if self.is_one_in(3) else b"plan"
+            return b"%b %b guarantee %b" % (name, word.encode(), self.factor())
         if kind < 81:
             return b"plan %b space %b uniform" % (word.encode(), self.factor())
         if kind < 84:

@@ -22,6 +22,7 @@ use Rattle.model_archive.specs.declared.refusal.Refusal.TheVariants.{Full}
 use Rattle.lists_versions.specs.Tests.{first_of}
 use Rattle.model_archive.specs.Steps.{full_journal}
 use Rattle.model_archive.proofs.RefusalLemmas.{cause, cause-allowed, cause-full, cause-none}
+use Rattle.archive_hand.specs.Jobs.{plain_job}
 use Rattle.archive_hand.specs.States.{ArchiveState, StandsFor, CacheStands, AreInStepBy, with_entry}
 use Rattle.archive_plans.specs.Shelves.{extents_all}
 use Rattle.lists_index.specs.Indexes.{IsPreparedFor}
@@ -102,13 +103,13 @@ leads_change s e body old new a b in_step change same appends pages = record {
 
 pub entry_led : (r : Result ℕ ChangeError) (b : ArchiveState) (old new : DiskState) (s : Store) (e : Entry) (body : List ℕ) (a : ArchiveState)
     → AreInStepBy old a s → IsNoPlan e → body ≡ spelling e → IfOk r (λ _. StandsFor b (s.history ++ e ∷ [])) → Appends (bodies_of s.history) body old new
-    → KeepsPages old new → OnOk r (new.holds.pages ≡ old.holds.pages) → OnOk r (IsInStep new b.end (bodies_of s.history ++ body ∷ [])) → (IsOk r → CacheStands new b) → (IsOk r → b.asked ≡ a.asked)
+    → KeepsPages old new → OnOk r (new.holds.pages ≡ old.holds.pages) → OnOk r (IsInStep new b.end (bodies_of s.history ++ body ∷ [])) → (IsOk r → CacheStands new b) → (IsOk r → b.asked ≡ a.asked) → (IsOk r → b.job ≡ a.job)
     → LeadsBy s (with_entry s e s.pages b new) old new × OnOk r (AreInStepBy new b (with_entry s e s.pages b new))
-entry_led r b old new s e body a in_step change same stands appends pages held step cached unasked = (leads_change s e body old new a b in_step change same appends pages, go r stands held step cached unasked)
+entry_led r b old new s e body a in_step change same stands appends pages held step cached unasked still = (leads_change s e body old new a b in_step change same appends pages, go r stands held step cached unasked still)
   where
-    go : (r : Result ℕ ChangeError) → IfOk r (λ _. StandsFor b (s.history ++ e ∷ [])) → OnOk r (new.holds.pages ≡ old.holds.pages) → OnOk r (IsInStep new b.end (bodies_of s.history ++ body ∷ [])) → (IsOk r → CacheStands new b) → (IsOk r → b.asked ≡ a.asked)
+    go : (r : Result ℕ ChangeError) → IfOk r (λ _. StandsFor b (s.history ++ e ∷ [])) → OnOk r (new.holds.pages ≡ old.holds.pages) → OnOk r (IsInStep new b.end (bodies_of s.history ++ body ∷ [])) → (IsOk r → CacheStands new b) → (IsOk r → b.asked ≡ a.asked) → (IsOk r → b.job ≡ a.job)
         → OnOk r (AreInStepBy new b (with_entry s e s.pages b new))
-    go (Ok n) stands held step cached unasked =
+    go (Ok n) stands held step cached unasked still =
         record {
           stands = stands;
           asked_are = unasked refl ∙ in_step.asked_are;
@@ -116,18 +117,19 @@ entry_led r b old new s e body a in_step change same stands appends pages held s
           pages_are = held ∙ in_step.pages_are;
           kept_are = refl;
           read_is = refl;
+          job_is = ap plain_job (still refl) ∙ in_step.job_is;
           live = subst (λ (l : List StoredPlan). AreLive (extents_all l) (length s.pages)) (sym (same_live s.history e change)) in_step.live;
           same = λ image allowed. subst (λ (l : List StoredPlan). All (HasSame s.pages image.pages) (extents_all l)) (sym (same_live s.history e change)) (pages_keep s old new in_step.same pages image allowed);
           cached = cached refl;
         }
-    go (Err error) stands held step cached unasked = tt
+    go (Err error) stands held step cached unasked still = tt
 
 pub adds_by : (r : Result ℕ ChangeError) (a b : ArchiveState) (old new : DiskState) (s : Store) (e : Entry) (x : Change ℕ) (body : List ℕ) (words : Words)
     → AreInStepBy old a s → IsNext s.history e x body → IsPreparedFor a.index (document_of e) (text_of e) words → IfOk r (λ n. IsMore a b x body words × (n ≡ b.length)) → Appends (bodies_of s.history) body old new
     → KeepsPages old new → OnOk r (new.holds.pages ≡ old.holds.pages) → OnOk r (IsInStep new b.end (bodies_of s.history ++ body ∷ [])) → (IsOk r → CacheStands new b)
     → LeadsBy s (with_entry s e s.pages b new) old new × OnOk r (AreInStepBy new b (with_entry s e s.pages b new))
 adds_by r a b old new s e x body words in_step next prepared more appends pages held step cached =
-    entry_led r b old new s e body a in_step (change_comes s.history e x in_step.stands.loadable next.legal.allowed next.makes).0 next.spelled (go r more) appends pages held step cached (asked r more)
+    entry_led r b old new s e body a in_step (change_comes s.history e x in_step.stands.loadable next.legal.allowed next.makes).0 next.spelled (go r more) appends pages held step cached (asked r more) (job r more)
   where
     go : (r : Result ℕ ChangeError) → IfOk r (λ n. IsMore a b x body words × (n ≡ b.length)) → IfOk r (λ _. StandsFor b (s.history ++ e ∷ []))
     go (Ok n) more = stands_more a b s.history e x body words in_step.stands next prepared more.0
@@ -136,3 +138,7 @@ adds_by r a b old new s e x body words in_step next prepared more appends pages 
     asked : (r : Result ℕ ChangeError) → IfOk r (λ n. IsMore a b x body words × (n ≡ b.length)) → IsOk r → b.asked ≡ a.asked
     asked (Ok n) more ok = more.0.asked_is
     asked (Err error) more ok = absurd cc
+
+    job : (r : Result ℕ ChangeError) → IfOk r (λ n. IsMore a b x body words × (n ≡ b.length)) → IsOk r → b.job ≡ a.job
+    job (Ok n) more ok = more.0.job_is
+    job (Err error) more ok = absurd cc

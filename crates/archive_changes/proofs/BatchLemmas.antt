@@ -108,7 +108,7 @@ on_whole (Err error) X is = tt
 
 -- an archive that is spent has what it had
 pub spent_but : (a : ArchiveState) → IsSpentBut a (record a { live = false })
-spent_but a = record { end_is = refl; length_is = refl; changes_are = refl; shelf_is = record { plans_are = refl; taken = λ es has. has; cache_is = refl }; marked_is = refl; asked_is = refl; live_is = refl }
+spent_but a = record { end_is = refl; length_is = refl; changes_are = refl; shelf_is = record { plans_are = refl; room = omega arith; taken = λ es has. has; cache_is = refl }; marked_is = refl; asked_is = refl; job_is = refl; live_is = refl }
 
 -- where a batch was declined, nothing was called
 pub declined_after : (tells X : Type 0) (why : BatchDeclined) (error : BatchError) (a b : ArchiveState) (d : DiskState) → X → IsTrue a.live → Reaches d.reach a → GivesUpAll why error a b
@@ -149,26 +149,26 @@ pub refused_by : (s : Store) (item : Item) (reply : Reply) (old : DiskState) (a 
 refused_by s item reply old a b in_step same step = (
   with_reads s b old,
   record { step = step; leads = keeps_leads s (with_reads s b old) old old (keeps_nowhere old a s in_step); still = λ none. (refl, refl) },
-  still_by old a b s in_step (rw same in_step.stands) (ap (λ (x : ArchiveState). x.asked) same) (rw same in_step.cached),
+  still_by old a b s in_step (rw same in_step.stands) (ap (λ (x : ArchiveState). x.asked) same) (rw same in_step.cached) (ap (λ (x : ArchiveState). x.job) same),
 )
 
 -- a batch that comes behind the history as an entry, or is refused
 pub batch_by : (s : Store) (item : Item) (e : Entry) (cause : Option Cause) (r : Result ℕ BatchError) (old new : DiskState) (a b : ArchiveState) → IsNoPlan e
-    → ((reply : Reply) (next : Store) → machine.AddsBatch s.history e cause reply next.history → Stocks s next → StoreStep s item reply next)
+    → ((reply : Reply) (next : Store) → machine.AddsBatch s.history e cause reply next.history → next.job ≡ s.job → Stocks s next → StoreStep s item reply next)
     → AreInStepBy old a s → AddsAll s.history e cause r b → ((why : Refusal) (index : Option ℕ) → r ≡ Err (batches.Refused why index) → (b ≡ a) × (new ≡ old)) → (r ≡ Err batches.Memory → new ≡ old)
     → LeadsBy s (with_entry s e s.pages b new) old new × OnOk r (AreInStepBy new b (with_entry s e s.pages b new)) → TakesBy s item (changed_all r) old new b
 batch_by s item e cause (Ok n) old new a b change step in_step adds same memory (leads, there) =
     let next = with_entry s e s.pages b new in
     let long : n ≡ length next.history = omega (arith, adds.stands.1, length-append s.history (e ∷ [])) in
     let added = subst (λ (o : Option Cause). machine.AddsBatch s.history e o (Accepted n) next.history) (sym (adds.allowed (inl refl))) (refl, ap Accepted long) in
-    (next, record { step = step (Accepted n) next added (stocks_change s e b new change in_step.live); leads = leads; still = λ none. absurd none }, there)
+    (next, record { step = step (Accepted n) next added refl (stocks_change s e b new change in_step.live); leads = leads; still = λ none. absurd none }, there)
 batch_by s item e cause (Err (batches.Refused why index)) old new a b change step in_step adds same memory (leads, there) =
     let (was, still) = same why index refl in
     let refused = subst (λ (o : Option Cause). machine.AddsBatch s.history e o (refused_for why index) s.history) (sym (adds.refused why index refl)) (refl, refl) in
     subst (λ (d : DiskState). TakesBy s item (Replied (refused_for why index)) old d b) (sym still)
-    (refused_by s item (refused_for why index) old a b in_step was (step (refused_for why index) (with_reads s b old) refused (stocks_same s b old in_step.live)))
+    (refused_by s item (refused_for why index) old a b in_step was (step (refused_for why index) (with_reads s b old) refused refl (stocks_same s b old in_step.live)))
 batch_by s item e cause (Err batches.Failed) old new a b change step in_step adds same memory (leads, there) =
     let next = with_entry s e s.pages b new in
     let added = subst (λ (o : Option Cause). machine.AddsBatch s.history e o (Accepted (length next.history)) next.history) (sym (adds.allowed (inr refl))) (refl, refl) in
-    inr (Accepted (length next.history), next, record { step = step (Accepted (length next.history)) next added (stocks_change s e b new change in_step.live); leads = leads; still = λ none. absurd none })
+    inr (Accepted (length next.history), next, record { step = step (Accepted (length next.history)) next added refl (stocks_change s e b new change in_step.live); leads = leads; still = λ none. absurd none })
 batch_by s item e cause (Err batches.Memory) old new a b change step in_step adds same memory (leads, there) = rw (memory refl) (keeps_nowhere old a s in_step)

@@ -2,3 +2,4 @@ mod AddLemmas
 mod TakeLemmas
 mod BatchLemmas
 mod PlanLemmas
+mod BeginLemmas

@@ -30,22 +30,22 @@ unmade_by s item changes.Memory old new a b in_step refused failed memory = rw (
 
 -- an item that adds an entry, or is refused
 pub entry_by : (s : Store) (item : Item) (e : Entry) (refusal : Option Refusal) (r : Result ℕ ChangeError) (old new : DiskState) (a b : ArchiveState) → IsNoPlan e
-    → ((reply : Reply) (next : Store) → machine.Adds s.history e refusal reply next.history → Stocks s next → StoreStep s item reply next)
+    → ((reply : Reply) (next : Store) → machine.Adds s.history e refusal reply next.history → next.job ≡ s.job → Stocks s next → StoreStep s item reply next)
     → AreInStepBy old a s → Adds s.history e refusal r b → ((why : Refusal) → r ≡ Err (changes.Refused why) → (b ≡ a) × (new ≡ old)) → (r ≡ Err changes.Memory → new ≡ old)
     → LeadsBy s (with_entry s e s.pages b new) old new × OnOk r (AreInStepBy new b (with_entry s e s.pages b new)) → TakesBy s item (changed r) old new b
 entry_by s item e refusal (Ok n) old new a b change step in_step adds same memory (leads, there) =
     let next = with_entry s e s.pages b new in
     let long : n ≡ length next.history = omega (arith, adds.stands.1, length-append s.history (e ∷ [])) in
     let added = subst (λ (o : Option Refusal). machine.Adds s.history e o (Accepted n) next.history) (sym (adds.allowed (inl refl))) (refl, ap Accepted long) in
-    (next, record { step = step (Accepted n) next added (stocks_change s e b new change in_step.live); leads = leads; still = λ none. absurd none }, there)
+    (next, record { step = step (Accepted n) next added refl (stocks_change s e b new change in_step.live); leads = leads; still = λ none. absurd none }, there)
 entry_by s item e refusal (Err error) old new a b change step in_step adds same memory (leads, there) =
     let next = with_entry s e s.pages b new in
     unmade_by s item error old new a b in_step
     (λ why is.
     let (was, still) = same why (ap Err is) in
     let refused = subst (λ (o : Option Refusal). machine.Adds s.history e o (Refused why) s.history) (sym (adds.refused why (ap Err is))) (refl, refl) in
-    (still, step (Refused why) (with_reads s b old) refused (stocks_same s b old in_step.live), still_by old a b s in_step (rw was in_step.stands) (ap (λ (x : ArchiveState). x.asked) was) (rw was in_step.cached)))
+    (still, step (Refused why) (with_reads s b old) refused refl (stocks_same s b old in_step.live), still_by old a b s in_step (rw was in_step.stands) (ap (λ (x : ArchiveState). x.asked) was) (rw was in_step.cached) (ap (λ (x : ArchiveState). x.job) was)))
     (λ is.
     let added = subst (λ (o : Option Refusal). machine.Adds s.history e o (Accepted (length next.history)) next.history) (sym (adds.allowed (inr (ap Err is)))) (refl, refl) in
-    inr (Accepted (length next.history), next, record { step = step (Accepted (length next.history)) next added (stocks_change s e b new change in_step.live); leads = leads; still = λ none. absurd none }))
+    inr (Accepted (length next.history), next, record { step = step (Accepted (length next.history)) next added refl (stocks_change s e b new change in_step.live); leads = leads; still = λ none. absurd none }))
     (λ is. memory (ap Err is))

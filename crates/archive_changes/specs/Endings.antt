@@ -1,7 +1,10 @@
 -- How the calls that change an archive end.
 use Rattle.std.specs.Prelude.{ℕ, None, Result, Ok, Err}
 use Rattle.model_archive.specs.declared.summary.Summary.{Summary}
-use Rattle.model_archive.specs.Steps.{Accepted, Refused, Planned, refused_for}
+use Rattle.model_archive.specs.Steps.{Accepted, Begun as BegunReply, Refused, Planned, refused_for}
+use Rattle.archive_entries.specs.declared.error.Declined.{Declined}
+use Rattle.archive_entries.specs.declared.error.Declined.TheVariants as declines
+use Rattle.archive_hand.specs.declared.job.Begun.{Begun}
 use Rattle.archive_hand.specs.declared.error.ChangeError.{ChangeError}
 use Rattle.archive_hand.specs.declared.error.ChangeError.TheVariants as changes
 use Rattle.archive_changes.specs.declared.error.BatchError.{BatchError}
@@ -21,6 +24,12 @@ changed (Err error) = unchanged error
 abbrev pub planned : Result Summary ChangeError → Ending
 planned (Ok summary) = Replied (Planned summary)
 planned (Err error) = unchanged error
+
+-- how a plan is begun
+abbrev pub begun : Result Begun Declined → Ending
+begun (Ok told) = Replied (BegunReply told.segments told.pages)
+begun (Err (declines.Refused why)) = Replied (Refused why)
+begun (Err declines.Memory) = Starved
 
 -- ---- batches
 

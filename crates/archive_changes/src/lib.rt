@@ -1,5 +1,5 @@
 //! The changes of an open archive: a version arrives, a document ends, a batch of both comes at once, the journal
-//! is marked, a plan is stored.
+//! is marked, a plan is stored, or begun.
 //!
 //! Each change leaves images that stand for the history before it or for that and the new entry, and
 //! after Ok for the latter alone; a refused one changes nothing (`specs/After.antt`). What is
@@ -14,4 +14,4 @@ mod planning;
 pub use batching::batch;
 pub use changing::{arrive, delete, mark_format};
 pub use error::BatchError;
-pub use planning::plan;
+pub use planning::{begin, plan};

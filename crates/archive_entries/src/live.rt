@@ -1,5 +1,5 @@
 //! Live plans: of each word the one that was stored last.
-ghost use Rattle.std.specs.Prelude.{◌≡◌, ◌<◌, ◌++◌, ◌∷◌, [], List, true, All, IfOk, MatchOption, fold, vec_len, vec_capacity};
+ghost use Rattle.std.specs.Prelude.{◌≡◌, ◌<◌, ◌≤◌, ◌+◌, ◌-◌, ◌++◌, ◌∷◌, [], List, true, All, IfOk, MatchOption, fold, vec_len, vec_capacity};
 ghost use Rattle.model_archive.specs.declared.stored.StoredPlan.{StoredPlan as PlainStored};
 ghost use Rattle.model_archive.specs.Plans.{is_another, with_plan};
 ghost use Rattle.archive_entries.specs.Live.{EachOnce, IsPlanAt};
@@ -40,6 +40,7 @@ pub fn put_live(live: &mut Vec<StoredPlan>, stored: StoredPlan) -> Option<Stored
     requires once { EachOnce live.old.items }
     ensures live { live.new.items ≡ with_plan live.old.items stored }
     ensures once { EachOnce live.new.items }
+    ensures room { vec_capacity live.old - vec_len live.old ≤ vec_capacity live.new - vec_len live.new + 1 }
     ensures old { MatchOption result (live.new.items ≡ live.old.items ++ stored ∷ []) (λ s. (front : List PlainStored)
         × (back : List PlainStored)
         × (live.old.items ≡ front ++ s ∷ back) × (live.new.items ≡ (front ++ back) ++ stored ∷ [])) }

@@ -47,6 +47,7 @@ use Rattle.archive_entries.specs.declared.batching.PreparedBatch.{PreparedBatch}
 use Rattle.archive_entries.proofs.IndexLemmas.{change_comes, changes_marked}
 use Rattle.archive_entries.proofs.PlaceLemmas.{placed_batch, placed_mark, placed_more}
 use Rattle.machine_model.specs.Calls.{OnlyReads}
+use Rattle.archive_hand.proofs.JobLemmas.{under_way_on}
 
 -- ---- an entry more
 
@@ -80,8 +81,9 @@ stands_more a b h e x body words stands next prepared more =
       changes_are = rw more.changes_are placed;
       index_is = rw comes.1 (more.indexed (changes h) x.doc (text_of e) stands.index_is (rw (makes_document e x next.makes) at prepared) comes.2);
       plans_are = ap (λ (s : ShelfState). s.plans) more.shelf_is ∙ stands.plans_are ∙ sym live;
-      pages_are = rw (more.shelf_is, live) stands.pages_are;
+      pages_are = rw (more.shelf_is, more.job_is, live) stands.pages_are;
       marked_is = more.marked_is ∙ stands.marked_is ∙ sym (unmarked_push h e (makes_unmarked e x next.makes));
+      under_way = rw (more.shelf_is, more.job_is) (under_way_on h e a.shelf.room a.job next.legal.allowed live stands.under_way);
     }
 
 -- an archive with the mark
@@ -104,6 +106,7 @@ stands_marked a h end stands none at =
       plans_are = stands.plans_are ∙ sym live;
       pages_are = rw live stands.pages_are;
       marked_is = sym (marked_push h);
+      under_way = under_way_on h Format a.shelf.room a.job (mark_legal h none).allowed live stands.under_way;
     }
 
 -- the archive with a batch more: its journal ends there, and these are its changes and its index
@@ -132,6 +135,7 @@ stands_batch a h batch p end all index stands next at noted indexed =
       plans_are = stands.plans_are ∙ sym live;
       pages_are = rw live stands.pages_are;
       marked_is = stands.marked_is ∙ sym (unmarked_push h (Batch batch) refl);
+      under_way = under_way_on h (Batch batch) a.shelf.room a.job next.legal.allowed live stands.under_way;
     }
 
 -- the bodies of a history with an entry more

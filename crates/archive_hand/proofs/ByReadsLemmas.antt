@@ -24,6 +24,7 @@ use Rattle.model_archive.specs.declared.stored.StoredPlan.{StoredPlan}
 use Rattle.model_archive.proofs.HoldLemmas.{same_live}
 use Rattle.archive_plans.specs.Shelves.{extents_all}
 use Rattle.archive_hand.specs.Changing.{KeepsBy, LeadsBy}
+use Rattle.archive_hand.specs.Jobs.{plain_job}
 use Rattle.archive_hand.specs.States.{ArchiveState, AreInStepBy, CacheStands, IsSameButCache, StandsFor, with_entry, with_reads}
 use Rattle.archive_hand.specs.Stored.{Store, EachStandsBy, HasSame, StandsBy, Stocks}
 use Rattle.archive_hand.proofs.AddLemmas.{step_reads}
@@ -64,20 +65,22 @@ reads_by s old new a b in_step same but cached = record {
   pages_are = ap (λ (d : DiskState). d.holds.pages) same ∙ in_step.pages_are;
   kept_are = refl;
   read_is = refl;
+  job_is = subst (λ (x : ArchiveState). plain_job x.job ≡ s.job) (sym but) in_step.job_is;
   live = in_step.live;
   same = (let P : DiskState → Type 0 = λ d. (image : Bytes) → MayLeave d.now image → All (HasSame s.pages image.pages) (live_extents s.history) in subst P (sym same) in_step.same);
   cached = cached;
 }
 
 -- an archive that goes on standing for a history on the same disk
-pub still_by : (d : DiskState) (a b : ArchiveState) (s : Store) → AreInStepBy d a s → StandsFor b s.history → b.asked ≡ a.asked → CacheStands d b → AreInStepBy d b (with_reads s b d)
-still_by d a b s was stands unasked cached = record {
+pub still_by : (d : DiskState) (a b : ArchiveState) (s : Store) → AreInStepBy d a s → StandsFor b s.history → b.asked ≡ a.asked → CacheStands d b → b.job ≡ a.job → AreInStepBy d b (with_reads s b d)
+still_by d a b s was stands unasked cached job = record {
   stands = stands;
   asked_are = unasked ∙ was.asked_are;
   journal = step_at (stands.end_is ∙ sym was.stands.end_is) was.journal;
   pages_are = was.pages_are;
   kept_are = refl;
   read_is = refl;
+  job_is = ap plain_job job ∙ was.job_is;
   live = was.live;
   same = was.same;
   cached = cached;
@@ -103,9 +106,17 @@ same_outside others (e ∷ live) base was pages apart same all =
     (omega (arith, one.0, same.no_shorter), bytes_stay e others was pages own (λ some. one.0) same ∙ one.1)
     (same_outside others live base was pages (λ p other mine. apart p other (inr mine)) same (All-tail (HasSame base was) e live all))
 
+-- pages that have what those had have it of each other
+pub both_same : (was pages image : List ℕ) (es : List Extent) → All (HasSame was pages) es → All (HasSame was image) es → All (HasSame pages image) es
+both_same was pages image [] one two = All-nil (HasSame pages image)
+both_same was pages image (e ∷ es) one two =
+    let mine = All-head (HasSame was pages) e es one in
+    let its = All-head (HasSame was image) e es two in
+    All-cons (HasSame pages image) e es (its.0, its.1 ∙ sym mine.1) (both_same was pages image es (All-tail (HasSame was pages) e es one) (All-tail (HasSame was image) e es two))
+
 -- ---- what a change leaves in Pages
 
-no_longer : (h : History) (plan : PlanEntry) → h ≡ h ++ Planned plan ∷ [] → ⊥
+pub no_longer : (h : History) (plan : PlanEntry) → h ≡ h ++ Planned plan ∷ [] → ⊥
 no_longer h plan same = omega (arith, ap length same, length_push h (Planned plan))
 
 pub stocks_none : (s : Store) → AreLive (live_extents s.history) (length s.pages) → Stocks s s

@@ -25,6 +25,11 @@ pub given_up_asked : (why : Declined) (error : ChangeError) (a b : ArchiveState)
 given_up_asked (declines.Refused because) error a b gives = ap (λ (x : ArchiveState). x.asked) gives.1
 given_up_asked declines.Memory error a b gives = ap (λ (x : ArchiveState). x.asked) gives.1
 
+-- and what is being written stays
+pub given_up_job : (why : Declined) (error : ChangeError) (a b : ArchiveState) → GivesUp why error a b → b.job ≡ a.job
+given_up_job (declines.Refused because) error a b gives = ap (λ (x : ArchiveState). x.job) gives.1
+given_up_job declines.Memory error a b gives = ap (λ (x : ArchiveState). x.job) gives.1
+
 -- and a refusal is the one that was handed on, and changes nothing
 pub given_up_refused : {T U : Type 0} (P : Refusal → ArchiveState → Type 0) (why : Declined) (error : ChangeError) (a b : ArchiveState) (because : Refusal) → GivesUp why error a b
     → ((other : Refusal) → ◌≡◌ {A = Result T Declined} (Err why) (Err (declines.Refused other)) → P other a) → ◌≡◌ {A = Result U ChangeError} (Err error) (Err (errors.Refused because)) → P because b

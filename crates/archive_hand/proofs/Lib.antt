@@ -10,3 +10,8 @@ mod LiveLemmas
 mod PutLemmas
 mod StoreLemmas
 mod LoadLemmas
+mod JobLemmas
+mod WorkLemmas
+mod StintLemmas
+mod BeginLemmas
+mod AdvanceLemmas

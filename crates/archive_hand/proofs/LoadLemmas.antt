@@ -1,11 +1,12 @@
 -- What an archive that was loaded stands for, and each image left.
-use Rattle.std.proofs.Common.{◌≡◌, ℕ, ◌<◌, ◌≤◌, List, [], ◌∷◌, length, All, Result, Ok, Err, IfOk, inl, inr, refl, ap, subst, sym, ◌∙◌, arith, Bool, length-append}
+use Rattle.std.proofs.Common.{None, ◌≡◌, ℕ, ◌<◌, ◌≤◌, List, [], ◌∷◌, length, All, Result, Ok, Err, IfOk, inl, inr, refl, ap, subst, sym, ◌∙◌, arith, Bool, length-append}
 use Rattle.std.proofs.lemmas.List.Elements.{All-nil}
 use Rattle.machine_model.specs.Areas.{Bytes}
 use Rattle.pages_area.specs.Live.{AreLive, IsInside}
 use Rattle.machine_model.specs.States.{DiskState}
 use Rattle.machine_model.specs.Images.{MayLeave, Only}
 use Rattle.lists_versions.specs.declared.change.Change.{Change}
+use Rattle.pages_area.proofs.StayLemmas.{apart_parts}
 use Rattle.journal_gates.specs.Spelled.{Spells, EachSpells}
 use Rattle.journal_gates.specs.InStep.{IsInStep}
 use Rattle.journal_gates.specs.Crash.{KeepsPages, KeepsBodies}
@@ -13,6 +14,7 @@ use Rattle.model_archive.specs.Histories.{History, end_of}
 use Rattle.model_archive.specs.Plans.{live_extents}
 use Rattle.model_archive.specs.Stands.{bodies_of, EachStands}
 use Rattle.model_archive.proofs.HistoryLemmas.{end_of-least, end_of_is}
+use Rattle.archive_hand.specs.Jobs.{places_of, plain_job}
 use Rattle.archive_hand.specs.States.{ArchiveState, StandsFor, Reaches, AreInStepBy}
 use Rattle.archive_plans.specs.Shelves.{ShelfState, extents_all}
 use Rattle.lists_index.specs.Indexes.{IndexState, Indexes}
@@ -64,7 +66,7 @@ pages_reads a b c keeps same =
 -- the archive of what was gone over
 pub stands_replayed : (h : History) (live : Bool) (heads : List Head) (changes : List (Change TextPlace)) (index : IndexState) (plans : List StoredPlan) (shelf : ShelfState) (end : ℕ) (marked : Bool)
     → end ≡ end_of h → length heads ≡ length h → IsReplayed h heads changes plans → Indexes index (histories.changes h) → shelf.plans ≡ plans → HasTaken shelf.pages (extents_all plans) → marked ≡ histories.is_marked h
-    → StandsFor (record { end = end; live = live; length = length heads; changes = changes; index = index; shelf = shelf; marked = marked; asked = [] }) h
+    → StandsFor (record { end = end; live = live; length = length heads; changes = changes; index = index; shelf = shelf; marked = marked; asked = []; job = None }) h
 stands_replayed h live heads changes index plans shelf end marked at many replayed indexed same taken mark = record {
   loadable = replayed.loadable;
   end_is = at;
@@ -74,6 +76,7 @@ stands_replayed h live heads changes index plans shelf end marked at many replay
   plans_are = same ∙ replayed.plans_are;
   pages_are = subst (λ (l : List StoredPlan). HasTaken shelf.pages (extents_all l)) replayed.plans_are taken;
   marked_is = mark;
+  under_way = tt;
 }
 
 -- a journal of at most 17 bytes spells the bodies of the empty history alone
@@ -98,20 +101,20 @@ IfOk-both (Err e) P Q R both p q = tt
 pub lie_well : (h : History) (d : DiskState) (a : ArchiveState) → StandsFor a h → Reaches d.reach a → length d.holds.pages ≡ d.reach.pages → AreLive (live_extents h) (length d.holds.pages)
 lie_well h d a stands reaches same =
     let I : ℕ → Type 0 = λ reach. All (IsInside reach) (live_extents h) in
-    (subst I (sym same) (subst (λ (plans : List StoredPlan). All (IsInside d.reach.pages) (extents_all plans)) stands.plans_are reaches.1), stands.pages_are.apart)
+    (subst I (sym same) (subst (λ (plans : List StoredPlan). All (IsInside d.reach.pages) (extents_all plans)) stands.plans_are reaches.1), (apart_parts (places_of a.job) (live_extents h) stands.pages_are.apart).1)
 
 -- ---- in step
 
 -- after a load each image has the pages that reads give, or the archive has no live place
 pub loaded_by : (a : ArchiveState) (mid new : DiskState) (old : Bytes) (end : ℕ) (bodies : List (List ℕ)) (h : History)
-    → StandsFor a h → a.shelf.cache ≡ [] → a.end ≡ end → bodies_of h ≡ bodies → Spells old.journal bodies → IsInStep mid end bodies → OnlyReads mid new → (17 < length old.journal → Only mid.holds mid) → mid.holds.pages ≡ old.pages
+    → StandsFor a h → a.shelf.cache ≡ [] → a.job ≡ None → a.end ≡ end → bodies_of h ≡ bodies → Spells old.journal bodies → IsInStep mid end bodies → OnlyReads mid new → (17 < length old.journal → Only mid.holds mid) → mid.holds.pages ≡ old.pages
     → Reaches new.reach a → length new.holds.pages ≡ new.reach.pages → a.asked ≡ []
-    → (s : Store) × (AreInStepBy new a s × Spells old.journal (bodies_of s.history) × (s.pages ≡ old.pages) × (s.asked ≡ []))
-loaded_by a mid new old end bodies h stands empty end_is same spelled step reads one pages reach long unasked =
+    → (s : Store) × (AreInStepBy new a s × Spells old.journal (bodies_of s.history) × (s.pages ≡ old.pages) × (s.asked ≡ []) × (s.job ≡ None))
+loaded_by a mid new old end bodies h stands empty idle end_is same spelled step reads one pages reach long unasked =
     let there : Spells old.journal (bodies_of h) = subst (λ (l : List (List ℕ)). Spells old.journal l) (sym same) spelled in
     let read : new.holds.pages ≡ old.pages = ap (λ (d : DiskState). d.holds.pages) reads ∙ pages in
     let live : AreLive (live_extents h) (length old.pages) = rw read at (lie_well h new a stands reach long) in (
-      record { history = h; asked = []; pages = old.pages; kept = a.shelf.cache; read = new.bytes_read.pages },
+      record { history = h; asked = []; pages = old.pages; kept = a.shelf.cache; read = new.bytes_read.pages; job = None },
       (
         record {
           stands = stands;
@@ -120,6 +123,7 @@ loaded_by a mid new old end bodies h stands empty end_is same spelled step reads
           pages_are = read;
           kept_are = refl;
           read_is = refl;
+          job_is = ap plain_job idle;
           live = live;
           same = λ image allowed. elim (cases_lt 17 (length old.journal)) as (λ _. All (HasSame old.pages image.pages) (live_extents h)) [
             | inl longer ↦
@@ -127,9 +131,10 @@ loaded_by a mid new old end bodies h stands empty end_is same spelled step reads
                 same_as old.pages old.pages image.pages (live_extents h) is (all_same old.pages (live_extents h) live.0)
             | inr short ↦ rw (none_spelled h old.journal short there) (All-nil (HasSame old.pages image.pages))
           ];
-          cached = none_cached new a empty;
+          cached = none_cached new a empty idle;
         },
         there,
+        refl,
         refl,
         refl,
       ),

@@ -1,5 +1,5 @@
 -- How an entry is added to an open archive, and when a change is given up.
-use Rattle.std.specs.Prelude.{◌≡◌, ◌⊎◌, ℕ, ◌+◌, List, [], ◌∷◌, ◌++◌, length, Option, Result, Err, IsOk, false}
+use Rattle.std.specs.Prelude.{◌≡◌, ◌⊎◌, ℕ, ◌+◌, ◌≤◌, List, [], ◌∷◌, ◌++◌, length, Option, Result, Err, IsOk, false}
 use Rattle.journal_gates.specs.Records.{gate_bytes}
 use Rattle.base_types.specs.declared.ids.DocId.{DocId}
 use Rattle.base_types.specs.declared.text_place.TextPlace.{TextPlace}
@@ -28,14 +28,16 @@ pub record IsMore (old new : ArchiveState) (change : Change ℕ) (body : List �
   pub shelf_is : new.shelf ≡ old.shelf
   pub marked_is : new.marked ≡ old.marked
   pub asked_is : new.asked ≡ old.asked
+  pub job_is : new.job ≡ old.job
   pub indexed : (texts : List (Change (List ℕ))) (doc : DocId) (text : Option (List ℕ)) → Indexes old.index texts
       → IsPreparedFor old.index doc text words
       → ComesLater texts (record { doc = doc; at = change.at; held = text })
       → Indexes new.index (texts ++ record { doc = doc; at = change.at; held = text } ∷ [])
 
--- the same plans, the same extents are taken, and the same pages are kept
+-- the same plans with as much room for more, the same extents are taken, and the same pages are kept
 pub record HasSameShelf (old new : ShelfState) : Type 0 where
   pub plans_are : new.plans ≡ old.plans
+  pub room : old.room ≤ new.room
   pub taken : (extents : List Extent) → HasTaken old.pages extents → HasTaken new.pages extents
   pub cache_is : new.cache ≡ old.cache
 
@@ -48,6 +50,7 @@ pub record IsSpent (old new : ArchiveState) : Type 0 where
   pub shelf_is : HasSameShelf old.shelf new.shelf
   pub marked_is : new.marked ≡ old.marked
   pub asked_is : new.asked ≡ old.asked
+  pub job_is : new.job ≡ old.job
   pub live_is : new.live ≡ false
 
 -- An archive that is spent within a batch has what it had but for what it tells of words, and may be changed no more.
@@ -58,6 +61,7 @@ pub record IsSpentBut (old new : ArchiveState) : Type 0 where
   pub shelf_is : HasSameShelf old.shelf new.shelf
   pub marked_is : new.marked ≡ old.marked
   pub asked_is : new.asked ≡ old.asked
+  pub job_is : new.job ≡ old.job
   pub live_is : new.live ≡ false
 
 -- a change was made or refused, and so the archive isn't spent

@@ -1,5 +1,6 @@
 pub mod Sealing
 pub mod Stored
+pub mod Jobs
 pub mod States
 pub mod Changing
 pub mod Adding

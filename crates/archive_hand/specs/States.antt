@@ -1,5 +1,5 @@
 -- What an open archive is, and when it and its disk stand for a history.
-use Rattle.std.specs.Prelude.{◌≡◌, ℕ, ◌≤◌, Bool, IsTrue, List, [], ◌∷◌, ◌++◌, length, All}
+use Rattle.std.specs.Prelude.{◌≡◌, ℕ, ◌≤◌, Bool, IsTrue, List, [], ◌∷◌, ◌++◌, length, All, Option}
 use Rattle.journal_gates.specs.Records.{first_gate}
 use Rattle.machine_model.specs.Areas.{Both, Bytes}
 use Rattle.machine_model.specs.Images.{MayLeave}
@@ -21,11 +21,14 @@ use Rattle.archive_plans.specs.Shelves.{ShelfState, extents_all}
 use Rattle.model_archive.specs.Stands.{bodies_of}
 use Rattle.model_archive.specs.Worlds.{World}
 use Rattle.plans_share.specs.declared.asked.Asking.{Asking}
+use Rattle.pages_sublists.specs.Paged.{ReachPages}
+use Rattle.archive_hand.specs.Jobs.{IsUnderWay, places_of, plain_job, written_of}
 use Rattle.archive_hand.specs.Stored.{Store, HasSame, world_by}
+use Rattle.archive_hand.specs.declared.job.Job.{Job}
 
 -- an open archive: where its journal ends, whether it may be changed, how many entries it has, the changes of documents with
--- the places of the texts, the index of the texts, the live plans with the free pages and the pages that are kept, whether it has the mark, and what it
--- was asked
+-- the places of the texts, the index of the texts, the live plans with the free pages and the pages that are kept, whether it has the mark, what it
+-- was asked, and a plan that is being written, if one is
 pub record ArchiveState : Type 0 where
   pub end : ℕ
   pub live : Bool
@@ -35,6 +38,7 @@ pub record ArchiveState : Type 0 where
   pub shelf : ShelfState
   pub marked : Bool
   pub asked : List Asking
+  pub job : Option Job
 
 -- an open archive stands for a history
 pub record StandsFor (archive : ArchiveState) (history : History) : Type 0 where
@@ -44,8 +48,9 @@ pub record StandsFor (archive : ArchiveState) (history : History) : Type 0 where
   pub changes_are : ArePlaced first_gate history archive.changes
   pub index_is : Indexes archive.index (changes history)
   pub plans_are : archive.shelf.plans ≡ live_plans history
-  pub pages_are : HasTaken archive.shelf.pages (live_extents history)
+  pub pages_are : HasTaken archive.shelf.pages (places_of archive.job ++ live_extents history)
   pub marked_is : archive.marked ≡ is_marked history
+  pub under_way : IsUnderWay history archive.shelf.room archive.job
 
 -- the same but for what it tells of words
 pub record StandsBut (archive : ArchiveState) (history : History) : Type 0 where
@@ -54,20 +59,22 @@ pub record StandsBut (archive : ArchiveState) (history : History) : Type 0 where
   pub length_is : archive.length ≡ length history
   pub changes_are : ArePlaced first_gate history archive.changes
   pub plans_are : archive.shelf.plans ≡ live_plans history
-  pub pages_are : HasTaken archive.shelf.pages (live_extents history)
+  pub pages_are : HasTaken archive.shelf.pages (places_of archive.job ++ live_extents history)
   pub marked_is : archive.marked ≡ is_marked history
+  pub under_way : IsUnderWay history archive.shelf.room archive.job
 
 -- what each open archive is, also one that is spent: while it may be changed, what it tells of words stands too
 abbrev pub IsSound : ArchiveState → Type 0
 IsSound archive = (history : History) × StandsBut archive history × (IsTrue archive.live → Indexes archive.index (changes history))
 
--- a disk of these lengths reaches as far as an open archive: what it may read is there
+-- a disk of these lengths reaches as far as an open archive: what it may read is there, and what was written of a plan
 abbrev pub Reaches : Both ℕ → ArchiveState → Type 0
 Reaches reach archive = (archive.end ≤ reach.journal) × All (IsInside reach.pages) (extents_all archive.shelf.plans)
+    × ReachPages reach.pages (written_of archive.job)
 
--- the pages that an open archive keeps are as reads of its disk give them
+-- the pages that an open archive keeps, and those that were written of a plan, are as reads of its disk give them
 abbrev pub CacheStands : DiskState → ArchiveState → Type 0
-CacheStands d archive = IsCacheOf archive.shelf.cache d.holds.pages
+CacheStands d archive = IsCacheOf (archive.shelf.cache ++ written_of archive.job) d.holds.pages
 
 -- the archive but for its cache is as it was
 abbrev pub IsSameButCache : ArchiveState → ArchiveState → Type 0
@@ -81,6 +88,7 @@ pub record AreInStepBy (d : DiskState) (archive : ArchiveState) (store : Store) 
   pub pages_are : d.holds.pages ≡ store.pages
   pub kept_are : archive.shelf.cache ≡ store.kept
   pub read_is : d.bytes_read.pages ≡ store.read
+  pub job_is : plain_job archive.job ≡ store.job
   pub live : AreLive (live_extents store.history) (length store.pages)
   pub same : (image : Bytes) → MayLeave d.now image → All (HasSame store.pages image.pages) (live_extents store.history)
   pub cached : CacheStands d archive
@@ -100,6 +108,7 @@ with_entry store entry pages archive d = record {
   pages = pages;
   kept = archive.shelf.cache;
   read = d.bytes_read.pages;
+  job = store.job;
 }
 
 -- the same history in the same pages

@@ -1,6 +1,6 @@
 -- An archive by what reads give: what an item of the input does to it, and what is replied. Nothing is asked of what lies in Pages: where it holds what
 -- the history's plans need, this is the abstract archive's step over the history.
-use Rattle.std.specs.Prelude.{◌≡◌, ℕ, ◌+◌, Bool, true, false, ◌^◌, List, [], ◌∷◌, ◌++◌, length, take, All, Result, Ok, Err}
+use Rattle.std.specs.Prelude.{◌≡◌, ℕ, ◌+◌, Bool, true, false, ◌^◌, List, [], ◌∷◌, ◌++◌, length, take, All, Option, is_some, Result, Ok, Err}
 use Rattle.machine_model.specs.Areas.{Bytes}
 use Rattle.machine_model.specs.Images.{MayLeave}
 use Rattle.machine_model.specs.States.{DiskState}
@@ -38,23 +38,24 @@ use Rattle.model_archive.specs.Plans.{live_extents}
 use Rattle.model_archive.specs.Rough.{IsMadeRough}
 use Rattle.model_archive.specs.Sharing.{Notes}
 use Rattle.model_archive.specs.Stands.{bodies_of}
-use Rattle.model_archive.specs.Steps.{Reply, Accepted, Found, FoundBest, Planned, Neared, Refused, Spanned, Verified, Version, BestsBy, Approximates, CarriesOut, Certifies, IsNoDisjunction, IsReplied, IsRepliedBy, Proposes, Shares}
-use Rattle.model_archive.specs.Worlds.{World}
+use Rattle.model_archive.specs.Steps.{Reply, Accepted, Found, FoundBest, Planned, Finished, Neared, Refused, Spanned, Verified, Version, Begins, BestsBy, Approximates, CarriesOut, Certifies, IsNoDisjunction, IsReplied, IsRepliedBy, Proposes, Shares, Works}
+use Rattle.model_archive.specs.Worlds.{Job, World}
 use Rattle.plans_share.specs.declared.asked.Asking.{Asking}
 use Rattle.archive_check.specs.Checked.{IsChecked}
 
--- an archive by what reads give: its history, what was asked, the bytes of Pages, the pieces of pages that it keeps, and how many bytes of Pages were
--- read
+-- an archive by what reads give: its history, what was asked, the bytes of Pages, the pieces of pages that it keeps, how many bytes of Pages were read,
+-- and a plan that is being written, if one is
 pub record Store : Type 0 where
   pub history : History
   pub asked : List Asking
   pub pages : List ℕ
   pub kept : List Kept
   pub read : ℕ
+  pub job : Option Job
 
 -- the state of the abstract archive that it is
 abbrev pub world_by : Store → World
-world_by store = record { history = store.history; asked = store.asked }
+world_by store = record { history = store.history; asked = store.asked; job = store.job }
 
 -- an extent lies inside these pages, and has the bytes there that it has in those
 abbrev pub HasSame : List ℕ → List ℕ → Extent → Type 0
@@ -79,7 +80,7 @@ pub record Stocks (old new : Store) : Type 0 where
 
 -- a change or a plan is carried out on the history as the machine says
 abbrev pub Changes : Store → Command → Reply → Store → Type 0
-Changes old command reply new = CarriesOut old.asked old.history command reply new.history × Stocks old new
+Changes old command reply new = CarriesOut old.asked old.job old.history command reply new.history × (new.job ≡ old.job) × Stocks old new
 
 -- what is found by a query at a time, by the lists that are chosen
 abbrev pub MakesAt : Store → Time → Query → Reply → Type 0
@@ -117,6 +118,7 @@ TellsVerdict store reply = (journal : List ℕ) × (verdict : Verdict) × Spells
 abbrev pub TellsNoEntry : Reply → Type 0
 TellsNoEntry (Accepted length) = ⊥
 TellsNoEntry (Planned summary) = ⊥
+TellsNoEntry (Finished summary) = ⊥
 TellsNoEntry other = Unit {0}
 
 -- pages are asked for that give these pieces: those that are missed are read, and kept
@@ -170,7 +172,17 @@ StoreStep old (items.Command (commands.Certificate word)) reply new = (new ≡ o
 StoreStep old (items.Command commands.Verify) reply new = ReadsOn old new × TellsVerdict old reply
 StoreStep old (items.Command (commands.Share factor words)) reply new = (new ≡ old)
     × Shares old.asked old.history words factor.fraction reply
+StoreStep old (items.Command (commands.Begin word fraction)) reply new =
+    Begins (world_by old) word fraction reply (world_by new) × (new ≡ record old { job = new.job })
 StoreStep old other reply new = (new ≡ old) × (reply ≡ Refused refusals.Line)
+
+-- A stint by what reads give: it is the abstract archive's, and leaves each live place as it was.
+abbrev pub StoreStint : Store → Reply → Store → Type 0
+StoreStint old reply new = Works (world_by old) reply (world_by new) × Stocks old new
+
+-- a plan is being written
+abbrev pub is_at_work : Store → Bool
+is_at_work store = is_some store.job
 
 -- the history and the bytes of Pages are the same
 abbrev pub IsSameStore : Store → Store → Type 0

@@ -1,5 +1,5 @@
 -- How a plan is stored.
-use Rattle.std.specs.Prelude.{◌≡◌, ◌⊎◌, ℕ, ◌<◌, ◌≤◌, List, [], ◌∷◌, ◌++◌, length, All}
+use Rattle.std.specs.Prelude.{◌≡◌, ◌⊎◌, ℕ, ◌<◌, ◌≤◌, List, [], ◌∷◌, ◌++◌, length, All, Option, Some, None}
 use Rattle.std.specs.List.{AllZip}
 use Rattle.machine_model.specs.Areas.{Bytes}
 use Rattle.machine_model.specs.Images.{MayLeave}
@@ -26,8 +26,11 @@ use Rattle.model_archive.specs.Histories.{History, end_of}
 use Rattle.model_archive.specs.Legal.{IsLegalEntry}
 use Rattle.model_archive.specs.Planning.{IsListUpTo, last_second}
 use Rattle.model_archive.specs.Plans.{live_extents}
+use Rattle.model_archive.specs.Worlds.{Job, taken_in}
 use Rattle.archive_plans.specs.declared.readying.Draft.{Draft}
 use Rattle.archive_plans.specs.Readying.{HasPlaces, plan_with}
+use Rattle.model_archive.specs.Steps.{pages_in}
+use Rattle.archive_hand.specs.declared.job.Begun.{Begun}
 use Rattle.archive_hand.specs.Stored.{Store, Stocks}
 use Rattle.archive_hand.specs.Changing.{LeadsBy}
 
@@ -52,10 +55,10 @@ pub record IsStorable (history : History) (plan : PlanEntry) (prepared : Prepare
   pub each : AllZip IsFor prepared.places prepared.spellings
   pub apart : AreApart (extents prepared.places ++ live_extents history)
 
--- What came of a draft, from a history: its plan has places and its entry room, and this is what is told of it.
-pub record IsStoredAs (history : History) (draft : Draft) (plan : PlanEntry) : Type 0 where
+-- What came of a draft, from a history, beside a plan that is being written: its plan has places and its entry room.
+pub record IsStoredAs (job : Option Job) (history : History) (draft : Draft) (plan : PlanEntry) : Type 0 where
   pub places : List Place
-  pub has : HasPlaces draft (live_extents history) places
+  pub has : HasPlaces draft (taken_in job history) places
   pub plan_is : plan ≡ plan_with draft places
   pub room : end_of (history ++ entries.Planned plan ∷ []) ≤ limit_of Journal
 
@@ -92,7 +95,21 @@ HasStopped bodies frame pieces old new = IsBegun bodies pieces old new ⊎ ((pag
 -- a draft comes behind a history as a plan, with its sublists in Pages
 pub record IsStoredBy (store next : Store) (draft : Draft) (old new : DiskState) : Type 0 where
   pub plan : PlanEntry
-  pub stored : IsStoredAs store.history draft plan
+  pub stored : IsStoredAs store.job store.history draft plan
+  pub job_is : next.job ≡ store.job
   pub next_is : next.history ≡ store.history ++ entries.Planned plan ∷ []
   pub stocks : Stocks store next
   pub leads : LeadsBy store next old new
+
+-- A draft is taken on behind a history, with places that no live one has: this is what the abstract archive knows of it, and what is told.
+pub record IsTakenOn (history : History) (draft : Draft) (job : Option Job) (begun : Begun) : Type 0 where
+  pub plan : PlanEntry
+  pub stored : IsStoredAs None history draft plan
+  pub job_is : job ≡ Some (record {
+    plan = plan;
+    space = plan_space draft.list.items draft.cuts.items draft.horizon.seconds;
+    full = length draft.list.items;
+    left = pages_in (extents plan.places);
+  })
+  pub segments_are : begun.segments ≡ length plan.cuts
+  pub pages_are : begun.pages ≡ pages_in (extents plan.places)

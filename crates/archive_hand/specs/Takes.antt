@@ -1,11 +1,15 @@
 -- What a call of the archive does for an item of the input: a step of the abstract archive, and what it leaves.
-use Rattle.std.specs.Prelude.{◌≡◌, ◌⊎◌}
+use Rattle.std.specs.Prelude.{◌≡◌, ◌⊎◌, Result, Ok, Err}
+use Rattle.machine_model.specs.declared.area.Failed.{Failed}
 use Rattle.machine_model.specs.States.{DiskState}
 use Rattle.base_commands.specs.declared.command.Item.{Item}
 use Rattle.pages_sublists.specs.declared.why.Damage.{Damage}
-use Rattle.model_archive.specs.Steps.{Reply}
+use Rattle.model_archive.specs.declared.summary.Summary.{Summary}
+use Rattle.model_archive.specs.Steps.{Reply, Finished, Refused, Silent}
 use Rattle.archive_hand.specs.States.{ArchiveState, AreInStepBy}
-use Rattle.archive_hand.specs.Stored.{Store, IsSameStore, Spoils, StoreStep, TellsNoEntry}
+use Rattle.archive_hand.specs.Stored.{Store, IsSameStore, Spoils, StoreStep, StoreStint, TellsNoEntry}
+use Rattle.archive_hand.specs.declared.job.Stint.{Stint}
+use Rattle.archive_hand.specs.declared.job.Stint.TheVariants as stints
 use Rattle.archive_hand.specs.Changing.{KeepsBy, LeadsBy}
 
 -- how a call ends: by a reply, for want of memory, by a fault of the disk, or at a sublist that is damaged
@@ -31,3 +35,17 @@ TakesBy store item Starved old new archive_now = KeepsBy store old new
 TakesBy store item Faulted old new archive_now = KeepsBy store old new
     ⊎ ((reply : Reply) × (next : Store) × Comes store item reply next old new)
 TakesBy store item (Spoiled damage) old new archive_now = KeepsBy store old new × Spoils store item damage × (new.holds.pages ≡ store.pages)
+
+-- what a stint says
+abbrev pub said : Stint → Reply
+said (stints.Wrote left) = Silent
+said (stints.Done summary) = Finished summary
+said (stints.Dropped why) = Refused why
+
+-- What a stint does: it is one of the abstract archive's, and the archive is in step with what came of it. Where the disk failed, all is as it was, or
+-- the plan is stored. Each image left since stands for what was before it or after it.
+abbrev pub TakesStint : Store → Result Stint Failed → DiskState → DiskState → ArchiveState → Type 0
+TakesStint store (Ok stint) old new archive_now = (next : Store) × StoreStint store (said stint) next × LeadsBy store next old new
+    × AreInStepBy new archive_now next
+TakesStint store (Err failed) old new archive_now = KeepsBy store old new
+    ⊎ ((told : Summary) × (next : Store) × StoreStint store (Finished told) next × LeadsBy store next old new)

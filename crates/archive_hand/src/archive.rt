@@ -1,5 +1,5 @@
 //! The open archive, and what it is asked that keeps it consistent.
-ghost use Rattle.std.specs.Prelude.{◌≡◌, ◌+◌, ◌<◌, ◌≤◌, [], length, get_or, Some, Ok, Err, IfOk, IfErr, IsErr, OnOk};
+ghost use Rattle.std.specs.Prelude.{◌≡◌, ◌+◌, ◌<◌, ◌≤◌, [], length, get_or, is_some, option_map, Some, None, Ok, Err, IfOk, IfErr, IsErr, OnOk};
 ghost use Rattle.journal_gates.specs.Records.{new_bytes};
 ghost use Rattle.machine_model.specs.Calls.{OnlyReads};
 ghost use Rattle.pages_sublists.specs.Fetching.{IfDamaged, IfFailed};
@@ -15,6 +15,7 @@ ghost use Rattle.lists_index.specs.Indexes.{state_of};
 ghost use Rattle.plans_share.specs.Asked.{noted_all};
 
 use crate::error::ChangeError;
+use crate::job::Job;
 use archive_entries::Declined;
 use archive_plans::{SegmentFrames, Shelf};
 use base_types::{Key, Span, Time};
@@ -38,6 +39,7 @@ pub struct Archive {
     pub(crate) marked: bool,
     pub(crate) asked: Asked,
     pub(crate) live: bool,
+    pub(crate) job: Option<Job>,
 }
 
 impl Model for Archive {
@@ -57,6 +59,7 @@ impl Model for Archive {
       shelf = a.shelf;
       marked = a.marked;
       asked = a.asked;
+      job = a.job;
     } };
 
     // It stands for a history, which it shows on any disk; one that is spent within a batch but for what it tells of words.
@@ -70,12 +73,13 @@ impl Model for Archive {
           shelf = a.shelf;
           marked = a.marked;
           asked = a.asked;
+          job = a.job;
         }) };
 }
 
 impl Archive {
     // The archive of a journal that was asked nothing yet, by the changes of its entries, the index of their texts, the live plans, and whether
-    // the mark is among the entries. It is live where the journal is.
+    // the mark is among the entries. It is live where the journal is, and no plan is being written.
     pub(crate) fn of(
         alloc: Global,
         journal: Journal,
@@ -96,6 +100,7 @@ impl Archive {
               shelf = shelf;
               marked = marked;
               asked = [];
+              job = None;
             }) h }
         ensures { result ≡ record {
           end = journal.end;
@@ -106,6 +111,7 @@ impl Archive {
           shelf = shelf;
           marked = marked;
           asked = [];
+          job = None;
         } }
     {
         let live = journal.is_live();
@@ -118,6 +124,7 @@ impl Archive {
             marked,
             asked: Asked::new(alloc),
             live,
+            job: None,
         }
     }
 
@@ -141,6 +148,20 @@ impl Archive {
         ensures { result ≡ self.now.marked }
     {
         self.marked
+    }
+
+    /// The plan that is being written, if one is. Constant cost.
+    pub fn job(&self) -> Option<&Job>
+        ensures { option_map (λ j. j.now) result ≡ self.now.job }
+    {
+        self.job.as_ref()
+    }
+
+    /// Whether a plan is being written. Constant cost.
+    pub fn is_at_work(&self) -> bool
+        ensures { result ≡ is_some self.now.job }
+    {
+        self.job.is_some()
     }
 
     /// The journal, whose end is the archive's. Constant cost.

@@ -83,6 +83,7 @@ impl Archive {
         ensures cached { D.disk_tells → CacheStands (D.disk disk.old) self.old → IsDone result → CacheStands (D.disk disk.new) self.new }
         ensures spent { (IsErrOf result ChangeError.Memory ⊎ IsErrOf result ChangeError.Failed) → IsSpentBut self.old self.new }
         ensures unasked { self.new.asked ≡ self.old.asked }
+        ensures idle { self.new.job ≡ self.old.job }
         ensures stands { (h : History) (batch : List Act) → StandsFor self.old h → IsNextBatch h batch prepared
             → IfOk result (λ n. StandsFor self.new (h ++ entries.Batch batch ∷ []) × (n ≡ length h + 1)) }
         ensures crash { D.disk_tells → (bodies : List (List ℕ)) → IsInStep (D.disk disk.old) self.old.end bodies

@@ -150,6 +150,7 @@ impl Archive {
         ensures cached { D.disk_tells → CacheStands (D.disk disk.old) self.old → IsDone result → CacheStands (D.disk disk.new) self.new }
         ensures spent { (IsErrOf result ChangeError.Memory ⊎ IsErrOf result ChangeError.Failed) → IsSpent self.old self.new }
         ensures unasked { self.new.asked ≡ self.old.asked }
+        ensures idle { self.new.job ≡ self.old.job }
         ensures stands { (h : History) → StandsFor self.old h
             → IfOk result (λ n. StandsFor self.new (h ++ entries.Format ∷ []) × (n ≡ length h + 1)) }
         ensures crash { D.disk_tells → (bodies : List (List ℕ)) → IsInStep (D.disk disk.old) self.old.end bodies

@@ -11,13 +11,16 @@ mod archive;
 mod batching;
 mod committing;
 mod error;
+mod job;
 mod laws;
 mod loading;
 mod sealing;
 mod storing;
+mod working;
 
 pub use archive::Archive;
 pub use archive_entries::LoadError;
 pub use error::ChangeError;
+pub use job::{Begun, Job, STINT_PAGES, Stint};
 pub use laws::an_archive_in_step_stands;
 pub use sealing::Sealed;

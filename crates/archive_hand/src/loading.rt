@@ -1,5 +1,5 @@
 //! Loading an archive.
-ghost use Rattle.std.specs.Prelude.{◌≡◌, ◌<◌, ◌≤◌, [], ℕ, List, length, All, IsTrue, IfOk, OnOk, IsErrOf};
+ghost use Rattle.std.specs.Prelude.{None, ◌≡◌, ◌<◌, ◌≤◌, [], ℕ, List, length, All, IsTrue, IfOk, OnOk, IsErrOf};
 ghost use Rattle.journal_gates.specs.Records.{first_gate, new_bytes};
 ghost use Rattle.machine_model.specs.Areas.{Bytes};
 ghost use Rattle.machine_model.specs.Causes.{Rose};
@@ -40,6 +40,7 @@ impl Archive {
         ensures live { IfOk result (λ a. IsTrue a.live) }
         ensures empty { IfOk result (λ a. a.shelf.cache ≡ []) }
         ensures unasked { IfOk result (λ a. a.asked ≡ []) }
+        ensures idle { IfOk result (λ a. a.job ≡ None) }
         ensures within { IfOk result (λ a. Reaches (D.disk disk.new).reach a) }
         ensures stands { IfOk result (λ a. (h : History) × StandsFor a h) }
         // What it answers of the bytes that reads gave at the start; where they stand for a history, it is the one loaded.
@@ -50,7 +51,7 @@ impl Archive {
         ensures by_reads { D.disk_tells
             → IfOk result (λ a. (s : Store)
             × (AreInStepBy (D.disk disk.new) a s × Spells (D.disk disk.old).holds.journal (bodies_of s.history)
-            × (s.pages ≡ (D.disk disk.old).holds.pages) × (s.asked ≡ []))) }
+            × (s.pages ≡ (D.disk disk.old).holds.pages) × (s.asked ≡ []) × (s.job ≡ None))) }
         ensures in_step { D.disk_tells → (h : History) → Stands h (D.disk disk.old).holds
             → IfOk result (λ a. AreInStep (D.disk disk.new) a (world_of h)) }
         ensures exact { D.disk_tells → OnOk result ((at : ℕ) → IsNotArchive (D.disk disk.old).holds at → ⊥) }
@@ -89,6 +90,7 @@ fn archive_of<D: Disk>(
     ensures live { IfOk result (λ a. a.live ≡ journal.live) }
     ensures empty { IfOk result (λ a. a.shelf.cache ≡ []) }
     ensures unasked { IfOk result (λ a. a.asked ≡ []) }
+    ensures idle { IfOk result (λ a. a.job ≡ None) }
     ensures end { IfOk result (λ a. a.end ≡ journal.end) }
     ensures within { IfOk result (λ a. Reaches (D.disk disk.new).reach a) }
     ensures stands { IfOk result (λ a. (h : History) × StandsFor a h) }

@@ -5,12 +5,15 @@ ghost use Rattle.machine_model.specs.Causes.{Rose};
 ghost use Rattle.base_types.specs.declared.extent.Extent.{Extent as PlainExtent};
 ghost use Rattle.journal_entries.specs.declared.place.Place.{Place as PlainPlace};
 ghost use Rattle.journal_gates.specs.InStep.{IsInStep};
-ghost use Rattle.pages_area.specs.Caches.{StandsFor as IsCacheOf};
+ghost use Rattle.pages_area.specs.Caches.{Kept, StandsFor as IsCacheOf};
 ghost use Rattle.pages_area.specs.Live.{IsInside};
 ghost use Rattle.pages_area.specs.Runs.{IsTaken};
 ghost use Rattle.pages_area.specs.Taken.{HasTaken};
+ghost use Rattle.pages_area.specs.Wrote.{extents_of};
 ghost use Rattle.pages_sublists.specs.Preparing.{extents, pieces};
-ghost use Rattle.model_archive.specs.Plans.{with_plan, live_extents};
+ghost use Rattle.model_archive.specs.Plans.{with_plan};
+ghost use Rattle.model_archive.specs.Worlds.{taken_in};
+ghost use Rattle.archive_hand.specs.Jobs.{plain_job};
 ghost use Rattle.archive_plans.specs.Shelves.{extents_all};
 ghost use Rattle.archive_hand.specs.Storing.{HasPutDown, HasStopped, IsDraft, IsStoredAs, IsStoredBy};
 ghost use Rattle.model_archive.specs.Histories.{History};
@@ -58,11 +61,13 @@ impl Archive {
         ensures cached { D.disk_tells → CacheStands (D.disk disk.old) self.old → IsDone result → CacheStands (D.disk disk.new) self.new }
         ensures spent { (IsErrOf result ChangeError.Memory ⊎ IsErrOf result ChangeError.Failed) → IsSpent self.old self.new }
         ensures unasked { self.new.asked ≡ self.old.asked }
+        ensures idle { self.new.job ≡ self.old.job }
         ensures refused { (h : History) → StandsFor self.old h → (why : Refusal) → IsErrOf result (ChangeError.Refused why)
-            → IsFull draft (live_extents h) self.old.end why × StandsFor self.new h }
+            → IsFull draft (taken_in (plain_job self.old.job) h) self.old.end why × StandsFor self.new h }
         ensures stores { (h : History) → StandsFor self.old h
             → IfOk result (λ r. (plan : PlanEntry)
-            × (IsStoredAs h draft plan × (r ≡ tells_of draft (length h + 1)) × StandsFor self.new (h ++ entries.Planned plan ∷ []))) }
+            × (IsStoredAs (plain_job self.old.job) h draft plan × (r ≡ tells_of draft (length h + 1))
+            × StandsFor self.new (h ++ entries.Planned plan ∷ []))) }
         // By what reads give, whatever lies in Pages: at Ok the draft's plan comes behind the history; where the disk failed, all is as it was, or it does.
         ensures puts { D.disk_tells → (s : Store) → AreInStepBy (D.disk disk.old) self.old s →
             IfOk result (λ r. (next : Store)
@@ -107,7 +112,8 @@ fn write_ready<D: Disk>(
     requires fits { journal.old.end + gate_bytes + length ready.frame ≤ 2 ^ 40 }
     requires room { 1 ≤ shelf.old.room }
     requires places { ready.stored.plan.places ≡ ready.prepared.places }
-    requires taken { HasTaken shelf.old.pages (extents ready.prepared.places ++ extents_all shelf.old.plans) }
+    requires taken { (more : List PlainExtent)
+        × HasTaken shelf.old.pages (extents ready.prepared.places ++ (more ++ extents_all shelf.old.plans)) }
     ensures only { D.Disk.only disk.old disk.new }
     ensures failed { OnErr result (Rose (D.disk disk.old).faults (D.disk disk.new).faults) }
     ensures summary { IfOk result (λ r. r ≡ ready.summary) }
@@ -116,11 +122,18 @@ fn write_ready<D: Disk>(
     ensures reached { OnOk result (journal.new.end ≤ (D.disk disk.new).reach.journal) }
     ensures inside { OnOk result (All (λ (p : PlainPlace). IsInside (D.disk disk.new).reach.pages p.extent) ready.prepared.places) }
     ensures plans { OnOk result (shelf.new.plans ≡ with_plan shelf.old.plans ready.stored) }
-    ensures pages { OnOk result (HasTaken shelf.new.pages (extents_all shelf.new.plans)) }
+    ensures room { OnOk result (shelf.old.room ≤ shelf.new.room + 1) }
+    ensures pages { (more : List PlainExtent)
+        → HasTaken shelf.old.pages (extents ready.prepared.places ++ (more ++ extents_all shelf.old.plans))
+        → OnOk result (HasTaken shelf.new.pages (more ++ extents_all shelf.new.plans)) }
     ensures cached { D.disk_tells → IsCacheOf shelf.old.cache (D.disk disk.old).holds.pages
         → OnOk result (IsCacheOf shelf.new.cache (D.disk disk.new).holds.pages) }
+    ensures others { D.disk_tells → (ks : List Kept) → All (λ k. IsTaken (extents_of (pieces ready.prepared)) k.page → ⊥) ks
+        → IsCacheOf ks (D.disk disk.old).holds.pages → OnOk result (IsCacheOf ks (D.disk disk.new).holds.pages) }
     ensures spent { OnErr result ((journal.new.end ≡ journal.old.end) × (shelf.new.plans ≡ shelf.old.plans)
-        × HasTaken shelf.new.pages (extents_all shelf.old.plans) × (shelf.new.cache ≡ shelf.old.cache)) }
+        × (shelf.new.cache ≡ shelf.old.cache) × (shelf.new.room ≡ shelf.old.room)) }
+    ensures freed { (live : List PlainExtent) → HasTaken shelf.old.pages (extents ready.prepared.places ++ live)
+        → OnErr result (HasTaken shelf.new.pages live) }
     // Whatever lies in Pages: what each image left since has.
     ensures puts { D.disk_tells → (bodies : List (List ℕ)) → IsInStep (D.disk disk.old) journal.old.end bodies
         → OnOk result (HasPutDown bodies ready.frame (pieces ready.prepared) (D.disk disk.old) (D.disk disk.new)) }
@@ -134,6 +147,7 @@ fn write_ready<D: Disk>(
         frame,
         prepared,
         summary,
+        ..
     } = ready;
     match put_down(disk, journal, shelf.sublists(), &frame, &prepared) {
         Ok(()) => {
@@ -168,6 +182,9 @@ fn put_down<D: Disk>(
     ensures spent { OnErr result (journal.new.end ≡ journal.old.end) }
     ensures cached { D.disk_tells → IsCacheOf sublists.now.cache (D.disk disk.old).holds.pages
         → OnOk result (IsCacheOf sublists.now.cache (D.disk disk.new).holds.pages) }
+    // Pages of others are as reads gave them.
+    ensures others { D.disk_tells → (ks : List Kept) → All (λ k. IsTaken (extents_of (pieces prepared.now)) k.page → ⊥) ks
+        → IsCacheOf ks (D.disk disk.old).holds.pages → OnOk result (IsCacheOf ks (D.disk disk.new).holds.pages) }
     // Whatever lies in Pages: what each image left since has.
     ensures puts { D.disk_tells → (bodies : List (List ℕ)) → IsInStep (D.disk disk.old) journal.old.end bodies
         → OnOk result (HasPutDown bodies frame.now (pieces prepared.now) (D.disk disk.old) (D.disk disk.new)) }

@@ -1,5 +1,5 @@
 -- The extents of live plans, the pages of theirs that are kept, and why their places are refused.
-use Rattle.std.proofs.Common.{◌≡◌, ℕ, zero, suc, ◌+◌, ◌<◌, List, [], ◌∷◌, ◌++◌, length, map, take, drop, get_or, true, refl, ap, subst, sym, ◌∙◌, arith, inl}
+use Rattle.std.proofs.Common.{◌≡◌, ℕ, zero, suc, ◌+◌, ◌<◌, List, [], ◌∷◌, ◌++◌, length, map, take, drop, get_or, true, refl, ap, subst, sym, ◌∙◌, arith, append_assoc, inl}
 use Rattle.std.proofs.lemmas.List.{append-nil, length-map, get_or_append_left, get_or_default, take_more, at_drop_more}
 use Rattle.std.proofs.lemmas.List.Concat.{flat_map-append}
 use Rattle.std.proofs.lemmas.List.Elements.{All-filter}
@@ -30,24 +30,29 @@ pub extents_push : (live : List StoredPlan) (stored : StoredPlan) → extents_al
 extents_push live stored =
     flat_map-append (λ (s : StoredPlan). extents_of s.plan) live (stored ∷ []) ∙ ap (λ (es : List Extent). extents_all live ++ es) (append-nil (extents_of stored.plan))
 
--- the old plan's extents come in front of the others
-pub old_in_front : (pages : PagesState) (new : List Extent) (live front back : List StoredPlan) (s : StoredPlan) (old : List Place) → live ≡ front ++ s ∷ back → old ≡ s.plan.places
-    → HasTaken pages (new ++ extents_all live) → HasTaken pages (new ++ (extents old ++ extents_all (front ++ back)))
-old_in_front pages new live front back s old same is has =
+-- the old plan's extents come in front of the others, and of more that are taken
+pub old_in_front : (pages : PagesState) (new more : List Extent) (live front back : List StoredPlan) (s : StoredPlan) (old : List Place) → live ≡ front ++ s ∷ back → old ≡ s.plan.places
+    → HasTaken pages (new ++ (more ++ extents_all live)) → HasTaken pages (new ++ (extents old ++ (more ++ extents_all (front ++ back))))
+old_in_front pages new more live front back s old same is has =
     let each : StoredPlan → List Extent = λ t. extents_of t.plan in
     let split : extents_all live ≡ extents_all front ++ (extents_of s.plan ++ extents_all back) = ap extents_all same ∙ flat_map-append each front (s ∷ back) in
-    let turned = taken_swaps pages new (extents_all front) (extents_of s.plan) (extents_all back) (subst (λ (es : List Extent). HasTaken pages (new ++ es)) split has) in
-    let joined = subst (λ (es : List Extent). HasTaken pages (new ++ (extents_of s.plan ++ es))) (sym (flat_map-append each front back)) turned in
-    subst (λ (ps : List Place). HasTaken pages (new ++ (extents ps ++ extents_all (front ++ back)))) (sym is) joined
+    let parts = subst (λ (es : List Extent). HasTaken pages (new ++ (more ++ es))) split has in
+    let flat = subst (HasTaken pages) (sym (append_assoc new more (extents_all front ++ (extents_of s.plan ++ extents_all back)))) parts in
+    let turned = taken_swaps pages (new ++ more) (extents_all front) (extents_of s.plan) (extents_all back) flat in
+    let joined = subst (λ (es : List Extent). HasTaken pages ((new ++ more) ++ (extents_of s.plan ++ es))) (sym (flat_map-append each front back)) turned in
+    let nested = subst (HasTaken pages) (append_assoc new more (extents_of s.plan ++ extents_all (front ++ back))) joined in
+    let first = taken_swaps pages new more (extents_of s.plan) (extents_all (front ++ back)) nested in
+    subst (λ (ps : List Place). HasTaken pages (new ++ (extents ps ++ (more ++ extents_all (front ++ back))))) (sym is) first
 
 -- the new plan's extents come behind the others
-pub new_behind : (pages : PagesState) (new : List Extent) (live : List StoredPlan) (stored : StoredPlan) → extents_of stored.plan ≡ new → HasTaken pages (new ++ extents_all live)
-    → HasTaken pages (extents_all (live ++ stored ∷ []))
-new_behind pages new live stored same has =
+pub new_behind : (pages : PagesState) (new more : List Extent) (live : List StoredPlan) (stored : StoredPlan) → extents_of stored.plan ≡ new → HasTaken pages (new ++ (more ++ extents_all live))
+    → HasTaken pages (more ++ extents_all (live ++ stored ∷ []))
+new_behind pages new more live stored same has =
     let others = extents_all live in
-    let turned = taken_swaps pages [] new others [] (subst (λ (es : List Extent). HasTaken pages (new ++ es)) (sym (append-nil others)) has) in
-    let flat : HasTaken pages (others ++ new) = subst (λ (es : List Extent). HasTaken pages (others ++ es)) (append-nil new) turned in
-    subst (HasTaken pages) (sym (extents_push live stored ∙ ap (λ (es : List Extent). others ++ es) same)) flat
+    let behind = taken_swaps pages [] new more others has in
+    let turned = taken_swaps pages more new others [] (subst (λ (es : List Extent). HasTaken pages (more ++ (new ++ es))) (sym (append-nil others)) behind) in
+    let flat : HasTaken pages (more ++ (others ++ new)) = subst (λ (es : List Extent). HasTaken pages (more ++ (others ++ es))) (append-nil new) turned in
+    subst (λ (es : List Extent). HasTaken pages (more ++ es)) (sym (extents_push live stored ∙ ap (λ (es : List Extent). others ++ es) same)) flat
 
 -- the extents of plans and the next one's
 pub extents_more : (plans : List StoredPlan) (i : ℕ) (s : StoredPlan) → i < length plans → s ≡ get_or plans i s → extents_all (take (i + 1) plans) ≡ extents_all (take i plans) ++ extents_of s.plan

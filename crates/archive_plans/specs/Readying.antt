@@ -51,6 +51,7 @@ pub record IsReady (draft : Draft) (end count : ℕ) (ready : Ready) : Type 0 wh
   pub spelled : ready.prepared.spellings ≡ bytes_of draft
   pub each : AllZip IsFor ready.prepared.places (bytes_of draft)
   pub framed : ready.frame ≡ plan_spelling ready.stored.plan
+  pub bytes_are : ready.bytes ≡ length ready.frame
   pub fits : end + gate_bytes + length ready.frame ≤ limit_of Journal
   pub told : ready.summary ≡ tells_of draft (count + 1)
 

@@ -49,6 +49,8 @@ pub struct Ready {
     pub stored: StoredPlan,
     /// Its entry's body, as the journal takes it.
     pub frame: Frame,
+    /// The length of its entry's body, in bytes.
+    pub bytes: u64,
     /// Its sublists, spelled, with their places.
     pub prepared: Prepared,
     /// What will be told of it.
@@ -81,7 +83,8 @@ pub fn make_ready(
         → IfOk result (λ r. HasPlaces draft taken r.prepared.places) }
     ensures taken { (taken : List PlainExtent) → HasTaken shelf.old.pages taken
         → IfOk result (λ r. HasTaken shelf.new.pages (extents r.prepared.places ++ taken)) }
-    ensures room { OnOk result (1 ≤ shelf.new.room) }
+    ensures room { OnOk result (2 ≤ shelf.new.room) }
+    ensures more { shelf.old.room ≤ shelf.new.room }
     ensures none { (taken : List PlainExtent) → HasTaken shelf.old.pages taken → OnErr result (HasTaken shelf.new.pages taken) }
     ensures full { (taken : List PlainExtent) → HasTaken shelf.old.pages taken → (why : Refusal) → IsErrOf result (Declined.Refused why)
         → IsFull draft taken end why }
@@ -100,6 +103,7 @@ pub fn make_ready(
                 plan: spelled.plan,
             },
             frame: spelled.frame,
+            bytes: spelled.bytes,
             prepared,
             summary,
         }),
@@ -141,6 +145,7 @@ fn full_pages() -> Refusal
 struct Spelled {
     plan: PlanEntry,
     frame: Frame,
+    bytes: u64,
 }
 
 /// The entry of a draft with these places, if the journal, which ends there, has room for it.
@@ -150,6 +155,7 @@ fn spell_entry(alloc: Global, end: u64, draft: Draft, places: &[Place]) -> Resul
     requires high { end ≤ 2 ^ 40 }
     ensures plan { IfOk result (λ s. s.plan ≡ plan_with draft places.now) }
     ensures frame { IfOk result (λ s. s.frame ≡ plan_spelling s.plan) }
+    ensures bytes { IfOk result (λ s. s.bytes ≡ length s.frame) }
     ensures fits { IfOk result (λ s. end + gate_bytes + length s.frame ≤ limit_of Which.Journal) }
     ensures full { (why : Refusal) → IsErrOf result (Declined.Refused why)
         → (limit_of Which.Journal < end + gate_bytes + length (plan_spelling (plan_with draft places.now)))
@@ -166,9 +172,10 @@ fn spell_entry(alloc: Global, end: u64, draft: Draft, places: &[Place]) -> Resul
         places: Listed::new(places),
     };
     let body = encode_plan(alloc, &plan)?;
-    if Which::Journal.limit() < end + GATE_BYTES + body.len() as u64 {
+    let bytes = body.len() as u64;
+    if Which::Journal.limit() < end + GATE_BYTES + bytes {
         return Err(Declined::Refused(full_journal()));
     }
     let frame = Frame::new(alloc, &body)?;
-    Ok(Spelled { plan, frame })
+    Ok(Spelled { plan, frame, bytes })
 }

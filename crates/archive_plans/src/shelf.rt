@@ -185,6 +185,7 @@ impl Shelf {
         requires taken { (live : List PlainExtent) × HasTaken self.old.pages (extents prepared.places ++ live) }
         ensures plans { self.new.plans ≡ self.old.plans }
         ensures cache { self.new.cache ≡ self.old.cache }
+        ensures room { self.new.room ≡ self.old.room }
         ensures freed { (live : List PlainExtent) → HasTaken self.old.pages (extents prepared.places ++ live)
             → HasTaken self.new.pages live }
     {
@@ -199,24 +200,30 @@ impl Shelf {
         &self.sublists
     }
 
-    /// Makes room for a plan more.
+    /// Makes room for two plans more: one that is stored at once, and one that is being written.
     pub fn make_room(&mut self) -> Result<(), AllocError>
+        ensures more { self.old.room ≤ self.new.room }
         ensures plans { self.new.plans ≡ self.old.plans }
         ensures pages { self.new.pages ≡ self.old.pages }
         ensures cache { self.new.cache ≡ self.old.cache }
-        ensures room { OnOk result (1 ≤ self.new.room) }
+        ensures room { OnOk result (2 ≤ self.new.room) }
     {
-        self.plans.reserve(1)
+        self.plans.reserve(2)
     }
 
-    /// A plan takes the place of the one that its word had, whose pages are free then and kept no longer.
-    /// Takes no memory. Costs a search among the plans and what giving each old place back does.
+    /// A plan takes the place of the one that its word had, whose pages are free then and kept no longer;
+    /// others that are taken stay so. Takes no memory. Costs a search among the plans and what giving each
+    /// old place back does.
     pub fn put(&mut self, stored: StoredPlan, prepared: Prepared)
         requires room { 1 ≤ self.old.room }
         requires places { extents stored.plan.places ≡ extents prepared.places }
-        requires taken { HasTaken self.old.pages (extents prepared.places ++ extents_all self.old.plans) }
+        requires taken { (more : List PlainExtent)
+            × HasTaken self.old.pages (extents prepared.places ++ (more ++ extents_all self.old.plans)) }
         ensures plans { self.new.plans ≡ with_plan self.old.plans stored }
-        ensures taken { HasTaken self.new.pages (extents_all self.new.plans) }
+        ensures room { self.old.room ≤ self.new.room + 1 }
+        ensures taken { (more : List PlainExtent)
+            → HasTaken self.old.pages (extents prepared.places ++ (more ++ extents_all self.old.plans))
+            → HasTaken self.new.pages (more ++ extents_all self.new.plans) }
         ensures stays { (pages : List ℕ) → StandsFor self.old.cache pages → StandsFor self.new.cache pages }
     {
         match put_live(&mut self.plans, stored) {

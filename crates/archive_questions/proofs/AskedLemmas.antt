@@ -178,12 +178,14 @@ noted_by d a s words at in_step = record {
     plans_are = stands.plans_are;
     pages_are = stands.pages_are;
     marked_is = stands.marked_is;
+    under_way = stands.under_way;
   });
   asked_are = ap (λ (asked : List Asking). noted_all asked words at) in_step.asked_are;
   journal = in_step.journal;
   pages_are = in_step.pages_are;
   kept_are = in_step.kept_are;
   read_is = in_step.read_is;
+  job_is = in_step.job_is;
   live = in_step.live;
   same = in_step.same;
   cached = in_step.cached;

@@ -1,8 +1,8 @@
 //! A page on which replies are written.
 ghost use Rattle.std.specs.Prelude.{◌≡◌, ◌+◌, ◌≤◌, [], ◌++◌, length, codes, decimal, Some, None, IfOk, OnOk, OnErr};
 ghost use Rattle.archive_replies.specs.Pages.{reply_room};
-ghost use Rattle.model_archive.specs.Replies.{approx_text, cost_text, detail_text, end_text, full_text, near_text, node_text, reply_text, row_text, segment_text, space_text, span_text, which_text, best_end_text};
-ghost use Rattle.model_archive.specs.Steps.{Accepted, Refused, RefusedIn, Found, FoundBest, Spanned, Approximated, Neared, Version, Proposed, Planned};
+ghost use Rattle.model_archive.specs.Replies.{approx_text, cost_text, detail_text, end_text, full_text, near_text, node_text, reply_text, row_text, segment_text, space_text, span_text, summary_line, which_text, best_end_text};
+ghost use Rattle.model_archive.specs.Steps.{Accepted, Refused, RefusedIn, Found, FoundBest, Spanned, Approximated, Neared, Version, Proposed, Planned, Begun, Finished, Silent};
 
 use base_types::{Posting, Span, Which};
 use itoa::Buffer;
@@ -185,7 +185,44 @@ impl ReplyPage {
         ensures { self.new.bytes ≡ reply_text (Planned summary) }
     {
         self.clear();
-        self.put_named(b"plan ", summary.length);
+        self.put_summary(b"plan", summary);
+    }
+
+    /// Writes the reply to a command that began a plan, in place of what the page held. It takes no memory.
+    /// Constant cost.
+    pub fn begun(&mut self, segments: u64, pages: u64)
+        ensures { self.new.bytes ≡ reply_text (Begun segments pages) }
+    {
+        self.clear();
+        self.put_named(b"begun ", segments);
+        self.put_named(b" ", pages);
+        self.put(b"\n");
+    }
+
+    /// Writes what is told of a plan that was begun and is stored now, in place of what the page held. It
+    /// takes no memory. Constant cost.
+    pub fn finished(&mut self, summary: Summary)
+        ensures { self.new.bytes ≡ reply_text (Finished summary) }
+    {
+        self.clear();
+        self.put_summary(b"done", summary);
+    }
+
+    /// Says nothing, in place of what the page held. It takes no memory. Constant cost.
+    pub fn silent(&mut self)
+        ensures { self.new.bytes ≡ reply_text Silent }
+    {
+        self.clear();
+    }
+
+    /// Adds the line of a plan that was stored, behind this word. It takes no memory.
+    fn put_summary(&mut self, word: &[u8], summary: Summary)
+        requires word { length word.now ≤ 4 }
+        requires room { 183 ≤ self.old.room }
+        ensures bytes { self.new.bytes ≡ self.old.bytes ++ summary_line word.now summary }
+    {
+        self.put(word);
+        self.put_named(b" ", summary.length);
         self.put_named(b" segments ", summary.segments);
         self.put_named(b" space ", summary.space);
         self.put_named(b" full ", summary.full);

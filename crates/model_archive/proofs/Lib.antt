@@ -17,6 +17,7 @@ mod BatchOutcomes
 mod NearLemmas
 mod RoughLemmas
 pub mod OutcomeLemmas
+pub mod SpeakLemmas
 mod BoundLemmas
 pub mod ChosenLemmas
 pub mod RoughMade

@@ -2,7 +2,7 @@
 use Rattle.std.proofs.Common.{subst, sym, ◌≡◌, ℕ, ◌+◌, ◌<◌, ◌≤◌, ◌^◌, not, nat_lt, List, [], ◌∷◌, ◌++◌, length, map, take, All, Contains, Option, Some, None, IsSome, is_some, Result, Ok, Err, refl, ap, ap₂, sum_by, Bool, true, false, arith, unwrap_or, ◌∙◌, inl, inr}
 use Rattle.std.specs.Str.{is_utf8}
 use Rattle.std.specs.Option.{option_map}
-use Rattle.std.proofs.lemmas.Bool.{cases_lt, ltb-false}
+use Rattle.std.proofs.lemmas.Bool.{cases_lt, ltb-false, ltb-true}
 use Rattle.std.proofs.lemmas.Str.{IsUtf8-from_is_utf8}
 use Rattle.std.proofs.lemmas.List.Elements.{All-nil, All-cons, All-head, All-tail, All-append, All-weaker}
 use Rattle.base_types.specs.declared.fraction.Fraction.{Fraction}
@@ -46,7 +46,7 @@ use Rattle.model_archive.specs.declared.refusal.Refusal.{Refusal}
 use Rattle.model_archive.specs.declared.refusal.Refusal.TheVariants as refusals
 use Rattle.plans_kinds.specs.Plans.{IsFitFor}
 use Rattle.model_archive.specs.Histories.{History, change_by, changes, text_at, entry_refusal}
-use Rattle.model_archive.specs.Legal.{EachMayCome, IsLegal, IsLegalEntry, IsLoadable}
+use Rattle.model_archive.specs.Legal.{EachMayCome, IsLegal, IsLegalEntry, IsLoadable, IsFair, MayBeStored}
 use Rattle.journal_entries.specs.declared.place.Layout.TheVariants.{Flat}
 use Rattle.journal_entries.specs.declared.plan.PlanEntry.{PlanEntry}
 use Rattle.pages_sublists.specs.Segments.{seconds}
@@ -67,16 +67,17 @@ use Rattle.base_commands.specs.declared.count.BestCount.{BestCount}
 use Rattle.base_commands.specs.declared.count.TopCount.{TopCount}
 use Rattle.base_commands.specs.declared.text.Text.TheVariants as texts
 use Rattle.model_archive.specs.declared.summary.Summary.{Summary}
-use Rattle.model_archive.specs.Steps.{Reply, Accepted, Refused, Found, FoundBest, Spanned, Version, Proposed, Planned, Verified, Adds, Declines, IsRepliedBy, IsReplied, Finds, FindsBy, Tops, TopsBy, Bests, BestsBy, IsNoDisjunction, Neared, NearsBy, Spans, SpansBy, Proposes, ProposesPlan, Plans, StoresPlan, spelled_key, CarriesOut, Step, too_long, bad_text, full_journal, arrival_refusal, deletion_refusal, mark_refusal}
+use Rattle.model_archive.specs.Steps.{Reply, Accepted, Refused, Found, FoundBest, Spanned, Version, Proposed, Planned, Verified, Adds, Declines, IsRepliedBy, IsReplied, Finds, FindsBy, Tops, TopsBy, Bests, BestsBy, IsNoDisjunction, Neared, NearsBy, Spans, SpansBy, Proposes, ProposesPlan, Plans, StoresPlan, spelled_key, CarriesOut, Step, too_long, bad_text, full_journal, arrival_refusal, deletion_refusal, mark_refusal, Silent, Idles, ChoosesPlan, TakesOn, OfStill, OfIdle, Begins, Works, WorksOn, WorksAt, Finishes, left_of, stint_pages}
 use Rattle.model_archive.specs.Runs.{Outcome, IsRun}
-use Rattle.model_archive.specs.Worlds.{World}
+use Rattle.model_archive.specs.Sharing.{Notes}
+use Rattle.model_archive.specs.Worlds.{World, Job, at_work}
 use Rattle.model_archive.proofs.HistoryLemmas.{legal-push, loadable-push, entry_loads}
 use Rattle.model_archive.proofs.BestLemmas.{each_sheets, found_by_blocks, one_zip}
 use Rattle.model_archive.proofs.BatchLemmas.{none_found}
 use Rattle.model_archive.proofs.BatchOutcomes.{no_cause, is_true, each_batch, batches_keep, one_batch}
 use Rattle.model_archive.proofs.RoughLemmas.{each_approximates, one_approximates, each_rough, one_rough}
-use Rattle.model_archive.proofs.StoringLemmas.{plan_outcome, plans_keep}
-use Rattle.model_archive.proofs.ToldLemmas.{plans_alike}
+use Rattle.model_archive.proofs.StoringLemmas.{plan_outcome, plans_keep, begin_outcome, begins_keep, job_later}
+use Rattle.model_archive.proofs.ToldLemmas.{plans_alike, none_begun}
 use Rattle.model_archive.proofs.CertifyingLemmas.{each_certifies, one_certifies}
 use Rattle.model_archive.proofs.VerifyLemmas.{each_verdict, one_verdict}
 use Rattle.plans_share.specs.declared.asked.Asking.{Asking}
@@ -276,58 +277,74 @@ each_proposes h phrase factor loads =
     (Proposed segments nodes total, (segments, nodes, total, proposal, refl)))
     (one_term phrase)
 
-pub each_plans : (h : History) (phrase : List ℕ) (kind : Kind) (factor : Fraction) → IsLoadable h → (outcome : Outcome Reply History) × Plans h phrase kind factor outcome.reply outcome.next
-each_plans h phrase kind factor loads =
-    each_phrase kind h (λ (r : Outcome Reply History) why. Declines h why r.reply r.next) (λ (r : Outcome Reply History) word list. StoresPlan h kind factor word list r.reply r.next)
+pub each_plans : (job : Option Job) (h : History) (phrase : List ℕ) (kind : Kind) (factor : Fraction) → IsLoadable h → (outcome : Outcome Reply History) × Plans job h phrase kind factor outcome.reply outcome.next
+each_plans job h phrase kind factor loads =
+    each_phrase kind h (λ (r : Outcome Reply History) why. Declines h why r.reply r.next)
+    (λ (r : Outcome Reply History) word list. OfStill job word (λ why. Declines h why r.reply r.next) (StoresPlan job h kind factor word list r.reply r.next))
     (λ why. (record { reply = Refused why; next = h }, (refl, refl)))
     (λ word. each_list_up_to h word (last_second h) (last_in_time h) loads)
-    (λ word list is some narrow. plan_outcome h kind factor word list is some narrow)
+    (λ word list is some narrow. plan_outcome job h kind factor word list is some narrow)
+    (spelled_key (one_term phrase))
+
+pub each_begins : (w : World) (phrase : List ℕ) (factor : Fraction) → IsLoadable w.history → (outcome : Outcome Reply World) × Begins w phrase factor outcome.reply outcome.next
+each_begins w phrase factor loads =
+    each_phrase Guarantee w.history (λ (r : Outcome Reply World) why. Idles w why r.reply r.next)
+    (λ (r : Outcome Reply World) word list. OfIdle w.job word (λ why. Idles w why r.reply r.next)
+    (ChoosesPlan w.job w.history Guarantee factor word list (λ why. Idles w why r.reply r.next) (λ plan. TakesOn w plan (full_journal w.history (entries.Planned plan)) list r.reply r.next)))
+    (λ why. (record { reply = Refused why; next = w }, (refl, refl)))
+    (λ word. each_list_up_to w.history word (last_second w.history) (last_in_time w.history) loads)
+    (λ word list is some narrow. begin_outcome w factor word list is some (narrow refl))
     (spelled_key (one_term phrase))
 
 declines_outcome : (h : History) (why : Refusal) → (outcome : Outcome Reply History) × Declines h why outcome.reply outcome.next
 declines_outcome h why = (record { reply = Refused why; next = h }, (refl, refl))
 
-each_command : (asked : List Asking) (h : History) (c : Command) → IsLoadable h → (outcome : Outcome Reply History) × CarriesOut asked h c outcome.reply outcome.next
-each_command asked h (commands.Arrive doc at (texts.Bytes text)) loads = adds_outcome h (entries.Arrive doc at text) (arrival_refusal h doc at text)
-each_command asked h (commands.Arrive doc at (texts.TooLong bytes)) loads = declines_outcome h (refusals.TooLong most_text)
-each_command asked h (commands.Delete doc at) loads = adds_outcome h (entries.Delete doc at) (deletion_refusal h doc at)
-each_command asked h commands.Format loads = adds_outcome h entries.Format (mark_refusal h)
-each_command asked h (commands.Batch batch) loads = each_batch h batch
-each_command asked h (commands.Find at expr) loads =
+each_command : (asked : List Asking) (job : Option Job) (h : History) (c : Command) → IsLoadable h → (outcome : Outcome Reply History) × CarriesOut asked job h c outcome.reply outcome.next
+each_command asked job h (commands.Arrive doc at (texts.Bytes text)) loads = adds_outcome h (entries.Arrive doc at text) (arrival_refusal h doc at text)
+each_command asked job h (commands.Arrive doc at (texts.TooLong bytes)) loads = declines_outcome h (refusals.TooLong most_text)
+each_command asked job h (commands.Delete doc at) loads = adds_outcome h (entries.Delete doc at) (deletion_refusal h doc at)
+each_command asked job h commands.Format loads = adds_outcome h entries.Format (mark_refusal h)
+each_command asked job h (commands.Batch batch) loads = each_batch h batch
+each_command asked job h (commands.Find at expr) loads =
     let found = each_finds h at expr loads in
     (record { reply = found.0; next = h }, (refl, found.1))
-each_command asked h (commands.Top count at expr) loads =
+each_command asked job h (commands.Top count at expr) loads =
     let tops = each_tops h count at expr loads in (record { reply = tops.0; next = h }, (refl, tops.1))
-each_command asked h (commands.Approx word tolerance) loads =
+each_command asked job h (commands.Approx word tolerance) loads =
     let told = each_approximates h word tolerance (λ w. each_word_list h w loads) in (record { reply = told.0; next = h }, (refl, told.1))
-each_command asked h (commands.Rough tolerance at expr) loads =
+each_command asked job h (commands.Rough tolerance at expr) loads =
     let near = each_text (NearsBy h tolerance at) (each_neared h tolerance at loads) expr in (record { reply = near.0; next = h }, (refl, near.1))
-each_command asked h (commands.Best count at expr) loads =
+each_command asked job h (commands.Best count at expr) loads =
     let bests = each_bests h count at expr loads in (record { reply = bests.0; next = h }, (refl, bests.1))
-each_command asked h (commands.Show doc at) loads = (record { reply = Version (text_at h doc at.seconds); next = h }, (refl, refl))
-each_command asked h (commands.Plan word kind fraction) loads = each_plans h word kind fraction loads
-each_command asked h (commands.Propose word fraction) loads =
+each_command asked job h (commands.Show doc at) loads = (record { reply = Version (text_at h doc at.seconds); next = h }, (refl, refl))
+each_command asked job h (commands.Plan word kind fraction) loads = each_plans job h word kind fraction loads
+each_command asked job h (commands.Propose word fraction) loads =
     let proposed = each_proposes h word fraction loads in
     (record { reply = proposed.0; next = h }, (refl, proposed.1))
-each_command asked h (commands.Between span expr) loads =
+each_command asked job h (commands.Between span expr) loads =
     let found = each_spans h span expr loads in
     (record { reply = found.0; next = h }, (refl, found.1))
-each_command asked h (commands.Certificate word) loads =
+each_command asked job h (commands.Certificate word) loads =
     let certified = each_certifies h word loads in
     (record { reply = certified.0; next = h }, (refl, certified.1))
-each_command asked h commands.Verify loads =
+each_command asked job h commands.Verify loads =
     let (verdict, verifies) = each_verdict h loads in
     (record { reply = Verified verdict; next = h }, (refl, (verdict, verifies, refl)))
-each_command asked h (commands.Share factor words) loads =
+each_command asked job h (commands.Share factor words) loads =
     let told = each_shares asked h words factor.fraction (λ word. each_list_up_to h word (last_second h) (last_in_time h) loads) in (record { reply = told.0; next = h }, (refl, told.1))
-each_command asked h to_come loads = declines_outcome h refusals.Line
+each_command asked job h other loads = declines_outcome h refusals.Line
+
+-- what came of a history, in the state that has it
+in_world : (w : World) (c : Command) → (outcome : Outcome Reply History) × CarriesOut w.asked w.job w.history c outcome.reply outcome.next
+    → (outcome : Outcome Reply World) × (CarriesOut w.asked w.job w.history c outcome.reply outcome.next.history × Notes w.asked c outcome.next.asked × (outcome.next.job ≡ w.job))
+in_world w c came =
+    let noted = each_noted w.asked c in
+    (record { reply = came.0.reply; next = record { history = came.0.next; asked = noted.0; job = w.job } }, (came.1, noted.1, refl))
 
 pub each_outcome : (w : World) (item : Item) → IsLoadable w.history → (outcome : Outcome Reply World) × Step w item outcome.reply outcome.next
-each_outcome w (items.Command c) loads =
-    let came = each_command w.asked w.history c loads in
-    let noted = each_noted w.asked c in
-    (record { reply = came.0.reply; next = record { history = came.0.next; asked = noted.0 } }, (came.1, noted.1))
-each_outcome w items.Line loads = (record { reply = Refused refusals.Line; next = w }, ((refl, refl), refl))
+each_outcome w (items.Command (commands.Begin word fraction)) loads = each_begins w word fraction loads
+each_outcome w (items.Command c) loads = in_world w c (each_command w.asked w.job w.history c loads)
+each_outcome w items.Line loads = (record { reply = Refused refusals.Line; next = w }, (refl, refl))
 
 -- and what is so of a history, and stays so with a legal entry more, is so of what a command leads to
 adds_keep : (P : History → Type 0) → ((h : History) (e : Entry) → P h → IsLegalEntry h e → P (h ++ e ∷ []))
@@ -339,42 +356,55 @@ stays : (P : History → Type 0) (h next : History) → P h → next ≡ h → P
 stays P h next is same = subst P (sym same) is
 
 pub command_keeps : (P : History → Type 0) → ((h : History) (e : Entry) → P h → IsLegalEntry h e → P (h ++ e ∷ []))
-    → (asked : List Asking) (h : History) (c : Command) (reply : Reply) (next : History) → P h → HasDocument (items.Command c) → CarriesOut asked h c reply next → P next
-command_keeps P push asked h (commands.Arrive doc at (texts.Bytes text)) reply next is range step = adds_keep P push h (entries.Arrive doc at text) (arrival_refusal h doc at text) reply next is (arrival_legal h doc at text range) step
-command_keeps P push asked h (commands.Arrive doc at (texts.TooLong bytes)) reply next is range step = stays P h next is step.0
-command_keeps P push asked h (commands.Delete doc at) reply next is range step = adds_keep P push h (entries.Delete doc at) (deletion_refusal h doc at) reply next is (deletion_legal h doc at range) step
-command_keeps P push asked h commands.Format reply next is range step = adds_keep P push h entries.Format (mark_refusal h) reply next is (mark_legal h) step
-command_keeps P push asked h (commands.Batch batch) reply next is range step = batches_keep P push h batch reply next is range step
-command_keeps P push asked h (commands.Find at expr) reply next is range step = stays P h next is step.0
-command_keeps P push asked h (commands.Top count at expr) reply next is range step = stays P h next is step.0
-command_keeps P push asked h (commands.Approx word tolerance) reply next is range step = stays P h next is step.0
-command_keeps P push asked h (commands.Rough tolerance at expr) reply next is range step = stays P h next is step.0
-command_keeps P push asked h (commands.Best count at expr) reply next is range step = stays P h next is step.0
-command_keeps P push asked h (commands.Show doc at) reply next is range step = stays P h next is step.0
-command_keeps P push asked h (commands.Plan word kind fraction) reply next is range step = plans_keep P push h word kind fraction reply next is step
-command_keeps P push asked h (commands.Propose word fraction) reply next is range step = stays P h next is step.0
-command_keeps P push asked h (commands.Between span expr) reply next is range step = stays P h next is step.0
-command_keeps P push asked h (commands.Certificate word) reply next is range step = stays P h next is step.0
-command_keeps P push asked h commands.Verify reply next is range step = stays P h next is step.0
-command_keeps P push asked h (commands.Share factor words) reply next is range step = stays P h next is step.0
-command_keeps P push asked h to_come reply next is range step = stays P h next is step.0
+    → (asked : List Asking) (job : Option Job) (h : History) (c : Command) (reply : Reply) (next : History) → P h → HasDocument (items.Command c) → CarriesOut asked job h c reply next → P next
+command_keeps P push asked job h (commands.Arrive doc at (texts.Bytes text)) reply next is range step = adds_keep P push h (entries.Arrive doc at text) (arrival_refusal h doc at text) reply next is (arrival_legal h doc at text range) step
+command_keeps P push asked job h (commands.Arrive doc at (texts.TooLong bytes)) reply next is range step = stays P h next is step.0
+command_keeps P push asked job h (commands.Delete doc at) reply next is range step = adds_keep P push h (entries.Delete doc at) (deletion_refusal h doc at) reply next is (deletion_legal h doc at range) step
+command_keeps P push asked job h commands.Format reply next is range step = adds_keep P push h entries.Format (mark_refusal h) reply next is (mark_legal h) step
+command_keeps P push asked job h (commands.Batch batch) reply next is range step = batches_keep P push h batch reply next is range step
+command_keeps P push asked job h (commands.Find at expr) reply next is range step = stays P h next is step.0
+command_keeps P push asked job h (commands.Top count at expr) reply next is range step = stays P h next is step.0
+command_keeps P push asked job h (commands.Approx word tolerance) reply next is range step = stays P h next is step.0
+command_keeps P push asked job h (commands.Rough tolerance at expr) reply next is range step = stays P h next is step.0
+command_keeps P push asked job h (commands.Best count at expr) reply next is range step = stays P h next is step.0
+command_keeps P push asked job h (commands.Show doc at) reply next is range step = stays P h next is step.0
+command_keeps P push asked job h (commands.Plan word kind fraction) reply next is range step = plans_keep P push job h word kind fraction reply next is step
+command_keeps P push asked job h (commands.Propose word fraction) reply next is range step = stays P h next is step.0
+command_keeps P push asked job h (commands.Between span expr) reply next is range step = stays P h next is step.0
+command_keeps P push asked job h (commands.Certificate word) reply next is range step = stays P h next is step.0
+command_keeps P push asked job h commands.Verify reply next is range step = stays P h next is step.0
+command_keeps P push asked job h (commands.Share factor words) reply next is range step = stays P h next is step.0
+command_keeps P push asked job h other reply next is range step = stays P h next is step.0
 
--- so every outcome leads from a legal history to a legal one,
-pub step_legal : (w : World) (item : Item) (reply : Reply) (next : World) → IsLegal w.history → HasDocument item → Step w item reply next → IsLegal next.history
-step_legal w (items.Command c) reply next legal range step = command_keeps IsLegal legal-push w.asked w.history c reply next.history legal range step.0
-step_legal w items.Line reply next legal range step = stays IsLegal w.history next.history legal step.0.0
+-- what a command leads to is a longer history by a legal entry, or the same: so a plan that is being written could be stored behind it
+pub command_later : (asked : List Asking) (job : Option Job) (h : History) (c : Command) (reply : Reply) (next : History) (goal : Option Job) → HasDocument (items.Command c) → CarriesOut asked job h c reply next → MayBeStored h goal → MayBeStored next goal
+command_later asked job h c reply next goal range step may = command_keeps (λ g. MayBeStored g goal) (λ g e is legal. job_later g e goal legal.allowed is) asked job h c reply next may range step
 
--- and from one that loads to one that loads
-pub step_loads : (w : World) (item : Item) (reply : Reply) (next : World) → IsLoadable w.history → HasDocument item → Step w item reply next → IsLoadable next.history
-step_loads w (items.Command c) reply next loads range step = command_keeps IsLoadable (λ h e is legal. loadable-push h e is (entry_loads h e legal)) w.asked w.history c reply next.history loads range step.0
-step_loads w items.Line reply next loads range step = stays IsLoadable w.history next.history loads step.0.0
+-- so every outcome leads from a fair state to a fair one
+step_keeps : (P : History → Type 0) → ((h : History) (e : Entry) → P h → IsLegalEntry h e → P (h ++ e ∷ []))
+    → (w : World) (item : Item) (reply : Reply) (next : World) → IsFair P w → HasDocument item → Step w item reply next → IsFair P next
+step_keeps P push w (items.Command (commands.Begin word fraction)) reply next fair range step = begins_keep P w word fraction reply next fair step
+step_keeps P push w (items.Command c) reply next fair range step = record {
+  history = command_keeps P push w.asked w.job w.history c reply next.history fair.history range step.0;
+  job = (let M : Option Job → Type 0 = λ o. MayBeStored next.history o in subst M (sym step.2) (command_later w.asked w.job w.history c reply next.history w.job range step.0 fair.job));
+}
+step_keeps P push w items.Line reply next fair range step = subst (IsFair P) (sym step.0) fair
+
+pub step_legal : (w : World) (item : Item) (reply : Reply) (next : World) → IsFair IsLegal w → HasDocument item → Step w item reply next → IsFair IsLegal next
+step_legal = step_keeps IsLegal legal-push
+
+pub loads_more : (h : History) (e : Entry) → IsLoadable h → IsLegalEntry h e → IsLoadable (h ++ e ∷ [])
+loads_more h e is legal = loadable-push h e is (entry_loads h e legal)
+
+pub step_loads : (w : World) (item : Item) (reply : Reply) (next : World) → IsFair IsLoadable w → HasDocument item → Step w item reply next → IsFair IsLoadable next
+step_loads = step_keeps IsLoadable loads_more
 
 -- a run goes on over any items whose documents are in range
-pub run_on : (w : World) (events : List Item) → IsLoadable w.history → All HasDocument events → (outcomes : List (Outcome Reply World)) × IsRun Step w events outcomes
-run_on w [] loads range = ([], tt)
-run_on w (item ∷ events) loads range =
-    let outcome = each_outcome w item loads in
-    let next = step_loads w item outcome.0.reply outcome.0.next loads (All-head HasDocument item events range) outcome.1 in
+pub run_on : (w : World) (events : List Item) → IsFair IsLoadable w → All HasDocument events → (outcomes : List (Outcome Reply World)) × IsRun Step w events outcomes
+run_on w [] fair range = ([], tt)
+run_on w (item ∷ events) fair range =
+    let outcome = each_outcome w item fair.history in
+    let next = step_loads w item outcome.0.reply outcome.0.next fair (All-head HasDocument item events range) outcome.1 in
     let further = run_on outcome.0.next events next (All-tail HasDocument item events range) in
     (outcome.0 ∷ further.0, (outcome.1, further.1))
 
@@ -510,40 +540,42 @@ one_declines h why reply other next then a b = one_stays h reply other next then
 same_outcome : {reply other : Reply} {next then : World} → (reply ≡ other) × (next ≡ then) → SameButChosen reply other × (next ≡ then)
 same_outcome one = (inl one.0, one.1)
 
-one_command : (asked : List Asking) (h : History) (c : Command) (reply other : Reply) (next then : History) → (IsChoice (items.Command c) → ⊥) → CarriesOut asked h c reply next → CarriesOut asked h c other then → IsOne reply other next then
-one_command asked h (commands.Arrive doc at (texts.Bytes text)) reply other next then free a b = one_adds h (entries.Arrive doc at text) (arrival_refusal h doc at text) reply other next then a b
-one_command asked h (commands.Arrive doc at (texts.TooLong bytes)) reply other next then free a b = one_declines h (refusals.TooLong most_text) reply other next then a b
-one_command asked h (commands.Delete doc at) reply other next then free a b = one_adds h (entries.Delete doc at) (deletion_refusal h doc at) reply other next then a b
-one_command asked h commands.Format reply other next then free a b = one_adds h entries.Format (mark_refusal h) reply other next then a b
-one_command asked h (commands.Batch batch) reply other next then free a b = one_batch h batch reply other next then a b
-one_command asked h (commands.Find at expr) reply other next then free a b = one_stays h reply other next then a.0 b.0 (one_finds h at expr reply other a.1 b.1)
-one_command asked h (commands.Top count at expr) reply other next then free a b = one_stays h reply other next then a.0 b.0 (one_tops h count at expr reply other a.1 b.1)
-one_command asked h (commands.Approx word tolerance) reply other next then free a b = one_stays h reply other next then a.0 b.0 (one_approximates h word tolerance reply other a.1 b.1)
-one_command asked h (commands.Rough tolerance at expr) reply other next then free a b = one_stays h reply other next then a.0 b.0 (one_text (NearsBy h tolerance at) (one_neared h tolerance at) expr reply other a.1 b.1)
-one_command asked h (commands.Best count at expr) reply other next then free a b = absurd (free tt)
-one_command asked h (commands.Show doc at) reply other next then free a b = one_stays h reply other next then a.0 b.0 (a.1 ∙ sym b.1)
-one_command asked h (commands.Plan word kind fraction) reply other next then free a b = absurd (free tt)
-one_command asked h (commands.Propose word fraction) reply other next then free a b = absurd (free tt)
-one_command asked h (commands.Between span expr) reply other next then free a b = one_stays h reply other next then a.0 b.0 (one_spans h span expr reply other a.1 b.1)
-one_command asked h (commands.Certificate word) reply other next then free a b = one_stays h reply other next then a.0 b.0 (one_certifies h word reply other a.1 b.1)
-one_command asked h commands.Verify reply other next then free a b =
+one_command : (asked : List Asking) (job : Option Job) (h : History) (c : Command) (reply other : Reply) (next then : History) → (IsChoice (items.Command c) → ⊥) → CarriesOut asked job h c reply next → CarriesOut asked job h c other then → IsOne reply other next then
+one_command asked job h (commands.Arrive doc at (texts.Bytes text)) reply other next then free a b = one_adds h (entries.Arrive doc at text) (arrival_refusal h doc at text) reply other next then a b
+one_command asked job h (commands.Arrive doc at (texts.TooLong bytes)) reply other next then free a b = one_declines h (refusals.TooLong most_text) reply other next then a b
+one_command asked job h (commands.Delete doc at) reply other next then free a b = one_adds h (entries.Delete doc at) (deletion_refusal h doc at) reply other next then a b
+one_command asked job h commands.Format reply other next then free a b = one_adds h entries.Format (mark_refusal h) reply other next then a b
+one_command asked job h (commands.Batch batch) reply other next then free a b = one_batch h batch reply other next then a b
+one_command asked job h (commands.Find at expr) reply other next then free a b = one_stays h reply other next then a.0 b.0 (one_finds h at expr reply other a.1 b.1)
+one_command asked job h (commands.Top count at expr) reply other next then free a b = one_stays h reply other next then a.0 b.0 (one_tops h count at expr reply other a.1 b.1)
+one_command asked job h (commands.Approx word tolerance) reply other next then free a b = one_stays h reply other next then a.0 b.0 (one_approximates h word tolerance reply other a.1 b.1)
+one_command asked job h (commands.Rough tolerance at expr) reply other next then free a b = one_stays h reply other next then a.0 b.0 (one_text (NearsBy h tolerance at) (one_neared h tolerance at) expr reply other a.1 b.1)
+one_command asked job h (commands.Best count at expr) reply other next then free a b = absurd (free tt)
+one_command asked job h (commands.Show doc at) reply other next then free a b = one_stays h reply other next then a.0 b.0 (a.1 ∙ sym b.1)
+one_command asked job h (commands.Plan word kind fraction) reply other next then free a b = absurd (free tt)
+one_command asked job h (commands.Propose word fraction) reply other next then free a b = absurd (free tt)
+one_command asked job h (commands.Between span expr) reply other next then free a b = one_stays h reply other next then a.0 b.0 (one_spans h span expr reply other a.1 b.1)
+one_command asked job h (commands.Certificate word) reply other next then free a b = one_stays h reply other next then a.0 b.0 (one_certifies h word reply other a.1 b.1)
+one_command asked job h commands.Verify reply other next then free a b =
     one_stays h reply other next then a.0 b.0 (a.1.2 ∙ ap Verified (one_verdict h a.1.0 b.1.0 a.1.1 b.1.1) ∙ sym b.1.2)
-one_command asked h (commands.Share factor words) reply other next then free a b = absurd (free tt)
-one_command asked h to_come reply other next then free a b = one_declines h refusals.Line reply other next then a b
+one_command asked job h (commands.Share factor words) reply other next then free a b = absurd (free tt)
+one_command asked job h (commands.Begin word factor) reply other next then free a b = one_declines h refusals.Line reply other next then a b
 
 pub one_outcome_only : (w : World) (item : Item) (reply other : Reply) (next then : World) → (IsChoice item → ⊥) → Step w item reply next → Step w item other then → (reply ≡ other) × (next ≡ then)
+one_outcome_only w (items.Command (commands.Begin word fraction)) reply other next then free a b = absurd (free tt)
 one_outcome_only w (items.Command c) reply other next then free a b =
-    let one = one_command w.asked w.history c reply other next.history then.history free a.0 b.0 in (one.0, one_world one.1 (one_noted w.asked c next.asked then.asked a.1 b.1))
-one_outcome_only w items.Line reply other next then free a b =
-    let one = one_declines w.history refusals.Line reply other next.history then.history a.0 b.0 in (one.0, one_world one.1 (a.1 ∙ sym b.1))
+    let one = one_command w.asked w.job w.history c reply other next.history then.history free a.0 b.0 in
+    (one.0, one_world one.1 (one_noted w.asked c next.asked then.asked a.1 b.1) (a.2 ∙ sym b.2))
+one_outcome_only w items.Line reply other next then free a b = (a.1 ∙ sym b.1, a.0 ∙ sym b.0)
 
 -- also where it may choose what is proposed, but for the segments, and which blocks are opened, but for their number
 pub one_but_chosen : (w : World) (item : Item) (reply other : Reply) (next then : World) → (IsStoring item → ⊥) → (IsSharing item → ⊥) → Step w item reply next → Step w item other then → SameButChosen reply other × (next ≡ then)
 one_but_chosen w (items.Command (commands.Propose word fraction)) reply other next then free unshared a b =
-    (one_proposes w.history word fraction reply other a.0.1 b.0.1, one_world (a.0.0 ∙ sym b.0.0) (a.1 ∙ sym b.1))
+    (one_proposes w.history word fraction reply other a.0.1 b.0.1, one_world (a.0.0 ∙ sym b.0.0) (a.1 ∙ sym b.1) (a.2 ∙ sym b.2))
 one_but_chosen w (items.Command (commands.Best count at expr)) reply other next then free unshared a b =
-    (one_bests w.history count at expr (asks_for_any expr) reply other a.0.1 b.0.1, one_world (a.0.0 ∙ sym b.0.0) (a.1 ∙ sym b.1))
+    (one_bests w.history count at expr (asks_for_any expr) reply other a.0.1 b.0.1, one_world (a.0.0 ∙ sym b.0.0) (a.1 ∙ sym b.1) (a.2 ∙ sym b.2))
 one_but_chosen w (items.Command (commands.Plan word kind fraction)) reply other next then free unshared a b = absurd (free tt)
+one_but_chosen w (items.Command (commands.Begin word fraction)) reply other next then free unshared a b = absurd (free tt)
 one_but_chosen w (items.Command (commands.Share factor words)) reply other next then free unshared a b = absurd (unshared tt)
 one_but_chosen w item reply other next then free unshared a b = same_outcome (one_outcome_only w item reply other next then (λ x. x) a b)
 
@@ -562,6 +594,70 @@ told_same {one = one} (inr (inl (segments, others, nodes, total, is, are)), on) 
 told_same {one = one} (inr (inr (rows, read, opened, others, blocks, is, are)), on) = absurd cc
 
 pub planned_alike : (w : World) (item : Item) (one other : Summary) (next then : World) → Step w item (Planned one) next → Step w item (Planned other) then → SamePlanned one other
-planned_alike w (items.Command (commands.Plan word kind fraction)) one other next then a b = plans_alike w.history word kind fraction one other next.history then.history a.0 b.0
+planned_alike w (items.Command (commands.Plan word kind fraction)) one other next then a b = plans_alike w.job w.history word kind fraction one other next.history then.history a.0 b.0
+planned_alike w (items.Command (commands.Begin word fraction)) one other next then a b = absurd (none_begun w word fraction one next a)
 planned_alike w (items.Command (commands.Share factor words)) one other next then a b = absurd (shares_nothing w.asked w.history words factor.fraction one a.0.1)
 planned_alike w item one other next then a b = told_same (one_but_chosen w item (Planned one) (Planned other) next then (λ x. x) (λ x. x) a b)
+
+-- ---- stints of the abstract machine
+
+-- one that says nothing changes no history, so what an image stands for
+works_on_silent : (b : Bool) (w : World) (job : Job) (new : World) → WorksOn b w job Silent new → new.history ≡ w.history
+works_on_silent true w job new is = ap (λ (w : World). w.history) is.0
+works_on_silent false w job new is = go (full_journal w.history (entries.Planned job.plan)) is
+  where
+    go : (o : Option Refusal) → Finishes w job o Silent new → new.history ≡ w.history
+    go None f = absurd cc
+    go (Some why) f = ap (λ (w : World). w.history) f.0
+
+pub silent_keeps : (old new : World) → Works old Silent new → new.history ≡ old.history
+silent_keeps old new works = go old.job works
+  where
+    go : (o : Option Job) → WorksAt old o Silent new → new.history ≡ old.history
+    go None is = absurd is
+    go (Some job) is = works_on_silent (nat_lt stint_pages job.left) old job new is
+
+-- each has an outcome, which leads to a fair state and leaves less to do
+module _ (P : History → Type 0) (push : (h : History) (e : Entry) → P h → IsLegalEntry h e → P (h ++ e ∷ [])) where
+  finishes_somehow : (w : World) (job : Job) (o : Option Refusal) → P w.history → IsLegalEntry w.history (entries.Planned job.plan) → (reply : Reply) × ((new : World) × Finishes w job o reply new × IsFair P new × (left_of new.job ≡ 0))
+  finishes_somehow w job None is entry = (_, (_, (refl, refl), record { history = push w.history (entries.Planned job.plan) is entry; job = tt }, refl))
+  finishes_somehow w job (Some why) is entry = (_, (_, (refl, refl), record { history = is; job = tt }, refl))
+
+  works_on : (b : Bool) (w : World) (job : Job) → nat_lt stint_pages job.left ≡ b → P w.history → IsLegalEntry w.history (entries.Planned job.plan)
+      → (reply : Reply) × ((new : World) × WorksOn b w job reply new × IsFair P new × (left_of new.job < job.left + 1))
+  works_on true w job more is entry = (Silent, (_, (refl, refl), record { history = is; job = entry }, omega (arith, ltb-true stint_pages job.left more)))
+  works_on false w job more is entry =
+      let last = finishes_somehow w job (full_journal w.history (entries.Planned job.plan)) is entry in
+      (last.0, (last.1.0, last.1.1, last.1.2, omega (arith, last.1.3)))
+
+  each_works : (w : World) → IsFair P w → at_work w ≡ true → (reply : Reply) × ((new : World) × Works w reply new × IsFair P new × (left_of new.job < left_of w.job))
+  each_works w fair working = go w.job fair.job working
+    where
+      go : (o : Option Job) → MayBeStored w.history o → is_some o ≡ true → (reply : Reply) × ((new : World) × WorksAt w o reply new × IsFair P new × (left_of new.job < left_of o))
+      go None may working = absurd cc
+      go (Some job) may working = works_on (nat_lt stint_pages job.left) w job refl fair.history may
+
+  -- and every outcome does
+  finishes_keep : (w : World) (job : Job) (o : Option Refusal) (reply : Reply) (new : World) → P w.history → IsLegalEntry w.history (entries.Planned job.plan) → Finishes w job o reply new → IsFair P new
+  finishes_keep w job None reply new is entry f = subst (IsFair P) (sym f.0) (record { history = push w.history (entries.Planned job.plan) is entry; job = tt })
+  finishes_keep w job (Some why) reply new is entry f = subst (IsFair P) (sym f.0) (record { history = is; job = tt })
+
+  works_keep : (w new : World) (reply : Reply) → IsFair P w → Works w reply new → IsFair P new
+  works_keep w new reply fair works = go w.job fair.job works
+    where
+      by : (b : Bool) (job : Job) → IsLegalEntry w.history (entries.Planned job.plan) → WorksOn b w job reply new → IsFair P new
+      by true job entry is = subst (IsFair P) (sym is.0) (record { history = fair.history; job = entry })
+      by false job entry is = finishes_keep w job (full_journal w.history (entries.Planned job.plan)) reply new fair.history entry is
+
+      go : (o : Option Job) → MayBeStored w.history o → WorksAt w o reply new → IsFair P new
+      go None may works = absurd works
+      go (Some job) may works = by (nat_lt stint_pages job.left) job may works
+
+pub each_stint : (w : World) → IsFair IsLoadable w → at_work w ≡ true → (reply : Reply) × ((new : World) × Works w reply new × IsFair IsLoadable new × (left_of new.job < left_of w.job))
+each_stint = each_works IsLoadable loads_more
+
+pub stint_loads : (w new : World) (reply : Reply) → IsFair IsLoadable w → Works w reply new → IsFair IsLoadable new
+stint_loads = works_keep IsLoadable loads_more
+
+pub stint_legal : (w new : World) (reply : Reply) → IsFair IsLegal w → Works w reply new → IsFair IsLegal new
+stint_legal = works_keep IsLegal legal-push

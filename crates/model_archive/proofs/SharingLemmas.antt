@@ -27,9 +27,9 @@ use Rattle.model_archive.proofs.PlanningLemmas.{each_phrase, of_phrase}
 
 -- ---- states
 
--- two states are the same by their histories and what was asked
-pub one_world : {next then : World} → next.history ≡ then.history → next.asked ≡ then.asked → next ≡ then
-one_world e f = λ i. record { history = e i; asked = f i }
+-- two states are the same by their histories, what was asked, and what is being written
+pub one_world : {next then : World} → next.history ≡ then.history → next.asked ≡ then.asked → next.job ≡ then.job → next ≡ then
+one_world e f g = λ i. record { history = e i; asked = f i; job = g i }
 
 -- each command notes something, and one thing
 pub each_noted : (asked : List Asking) (c : Command) → (new : List Asking) × Notes asked c new

@@ -1,5 +1,5 @@
 -- A plan that is to be stored has an outcome, which leads from a legal history to a legal one.
-use Rattle.std.proofs.Common.{◌≡◌, ◌⊎◌, ℕ, zero, suc, ◌/◌, ◌%◌, ◌<◌, ◌≤◌, Bool, true, false, if◌then◌else◌, nat_le, List, [], ◌∷◌, ◌++◌, length, All, Option, Some, None, inl, inr, refl, ap, sym, subst, ◌∙◌, arith, chars}
+use Rattle.std.proofs.Common.{◌≡◌, ◌⊎◌, ℕ, zero, suc, ◌/◌, ◌%◌, ◌<◌, ◌≤◌, Bool, true, false, if◌then◌else◌, nat_le, bytes_eq, List, [], ◌∷◌, ◌++◌, length, All, Option, Some, None, inl, inr, refl, ap, sym, subst, ◌∙◌, arith, chars}
 use Rattle.std.specs.List.{AllZip}
 use Rattle.std.specs.Option.{option_map}
 use Rattle.std.specs.Prelude.{unwrap_or, slice_index}
@@ -38,12 +38,13 @@ use Rattle.plans_kinds.proofs.GoodLemmas.{good_is_fit, each_has_a_good_plan, eac
 use Rattle.lists_versions.specs.Changes.{last_time}
 use Rattle.model_archive.specs.declared.refusal.Refusal.{Refusal}
 use Rattle.model_archive.specs.declared.refusal.Refusal.TheVariants as refusals
-use Rattle.model_archive.specs.Histories.{History, changes}
-use Rattle.model_archive.specs.Legal.{IsLegalEntry}
+use Rattle.model_archive.specs.Histories.{History, changes, entry_refusal}
+use Rattle.model_archive.specs.Legal.{IsFair, IsLegalEntry, MayBeStored}
 use Rattle.model_archive.specs.Planning.{last_second, IsListUpTo}
-use Rattle.model_archive.specs.Plans.{live_extents}
-use Rattle.model_archive.specs.Steps.{Reply, Refused, Planned, Declines, AddsPlan, StoresCuts, StoresPlan, Plans, in_blocks, spelled_key, full_journal}
+use Rattle.model_archive.specs.Steps.{Reply, Refused, Planned, Declines, Idles, AddsPlan, TakesOn, TakesPlaces, ChoosesPlan, StoresPlan, ByWord, OfStill, OfIdle, Begins, Plans, in_blocks, spelled_key, full_journal}
 use Rattle.model_archive.specs.Runs.{Outcome}
+use Rattle.model_archive.specs.Worlds.{Job, World, taken_in}
+use Rattle.model_archive.proofs.LiveLemmas.{later_push, list_later}
 use Rattle.model_archive.proofs.PlanningLemmas.{of_phrase}
 
 -- ---- ranges
@@ -160,22 +161,6 @@ adds_plan_outcome h plan None list cost costs = (
 )
 adds_plan_outcome h plan (Some why) list cost costs = (record { reply = Refused why; next = h }, (refl, refl))
 
-cuts_outcome : (h : History) (word : List ℕ) (kind : Kind) (factor : Fraction) (horizon : Time) (cuts : List Time) (list : List Posting) (cost : Option ℕ) → IsCostOf kind list cuts horizon.seconds cost
-    → (outcome : Outcome Reply History) × StoresCuts h word kind factor horizon cuts list outcome.reply outcome.next
-cuts_outcome h word kind factor horizon cuts list cost costs = go (placed_or_not (live_extents h) (sizes all))
-  where
-    all : List (List ℕ)
-    all = spellings Blocks list (seconds cuts) horizon.seconds
-
-    go : ((es : List Extent) × ArePlaced (live_extents h) (sizes all) es) ⊎ HaveNoRoom (live_extents h) (sizes all) → (outcome : Outcome Reply History) × StoresCuts h word kind factor horizon cuts list outcome.reply outcome.next
-    go (inr none) = (record { reply = Refused (refusals.Full Pages (limit_of Pages)); next = h }, inl (none, (refl, refl)))
-    go (inl (es, placed)) =
-        let (places, (same, zip)) = digested (live_extents h) all es placed in
-        let plan = in_blocks word kind factor horizon cuts places in
-        let (outcome, adds) = adds_plan_outcome h plan (full_journal h (entries.Planned plan)) list cost costs in
-        let A : List Extent → Type 0 = λ l. ArePlaced (live_extents h) (sizes all) l in
-        (outcome, inr (places, subst A (sym same) placed, zip, adds))
-
 -- the last time, where there is a time before it
 last_is : (h : History) → 0 < last_second h → (t : Time) × (t.seconds ≡ last_second h)
 last_is h some = go (last_time (changes h)) some
@@ -192,40 +177,172 @@ list_behind (p ∷ list) h some inside =
     let order : p.span.from < p.span.to = p.span.ordered in
     omega (arith, here.1, order)
 
-pub plan_outcome : (h : History) (kind : Kind) (factor : Fraction) (word : List ℕ) (list : List Posting) → IsListUpTo h word (last_second h) list → 0 < length list
-    → (kind ≡ Guarantee → IsNarrow list (last_second h)) → (outcome : Outcome Reply History) × StoresPlan h kind factor word list outcome.reply outcome.next
-plan_outcome h kind factor word list is some narrow =
-    let (horizon, last) = last_is h (list_behind list (last_second h) some is.inside) in
-    let early : All (λ (p : Posting). p.span.to ≤ horizon.seconds) list =
-    All-weaker (λ (p : Posting). (0 ≤ p.span.from) × (p.span.to ≤ last_second h)) (λ (p : Posting). p.span.to ≤ horizon.seconds) (λ p in_it. omega (arith, in_it.1, last)) list is.inside in
-    let N : ℕ → Type 0 = λ n. IsNarrow list n in
-    let (cuts, good) = each_has_a_good_plan kind list factor horizon some early (λ e. subst N (sym last) (narrow e)) in
+-- whatever comes of a plan that is placed, and of one for which there is no room, something does
+module _ {O : Type 0} (Refuses : O → Refusal → Type 0) (GoesOn : O → PlanEntry → Type 0) (refuses : (why : Refusal) → (o : O) × Refuses o why) where
+  places_outcome : (job : Option Job) (h : History) (word : List ℕ) (kind : Kind) (factor : Fraction) (horizon : Time) (cuts : List Time) (list : List Posting)
+      → ((places : List Place) → (o : O) × GoesOn o (in_blocks word kind factor horizon cuts places)) → (o : O) × TakesPlaces job h word kind factor horizon cuts list (Refuses o) (GoesOn o)
+  places_outcome job h word kind factor horizon cuts list on = go (placed_or_not (taken_in job h) (sizes all))
+    where
+      all : List (List ℕ)
+      all = spellings Blocks list (seconds cuts) horizon.seconds
+
+      go : ((es : List Extent) × ArePlaced (taken_in job h) (sizes all) es) ⊎ HaveNoRoom (taken_in job h) (sizes all) → (o : O) × TakesPlaces job h word kind factor horizon cuts list (Refuses o) (GoesOn o)
+      go (inr none) = let (o, is) = refuses (refusals.Full Pages (limit_of Pages)) in (o, inl (none, is))
+      go (inl (es, placed)) =
+          let (places, (same, zip)) = digested (taken_in job h) all es placed in
+          let (o, is) = on places in
+          let A : List Extent → Type 0 = λ l. ArePlaced (taken_in job h) (sizes all) l in
+          (o, inr (places, subst A (sym same) placed, zip, is))
+
+  pub chooses_outcome : (job : Option Job) (h : History) (kind : Kind) (factor : Fraction) (word : List ℕ) (list : List Posting) → IsListUpTo h word (last_second h) list → 0 < length list
+      → (kind ≡ Guarantee → IsNarrow list (last_second h))
+      → ((horizon : Time) (cuts : List Time) (places : List Place) → IsGoodPlan kind list factor cuts horizon.seconds → (o : O) × GoesOn o (in_blocks word kind factor horizon cuts places))
+      → (o : O) × ChoosesPlan job h kind factor word list (Refuses o) (GoesOn o)
+  chooses_outcome job h kind factor word list is some narrow on =
+      let (horizon, last) = last_is h (list_behind list (last_second h) some is.inside) in
+      let early : All (λ (p : Posting). p.span.to ≤ horizon.seconds) list =
+      All-weaker (λ (p : Posting). (0 ≤ p.span.from) × (p.span.to ≤ last_second h)) (λ (p : Posting). p.span.to ≤ horizon.seconds) (λ p in_it. omega (arith, in_it.1, last)) list is.inside in
+      let N : ℕ → Type 0 = λ n. IsNarrow list n in
+      let (cuts, good) = each_has_a_good_plan kind list factor horizon some early (λ e. subst N (sym last) (narrow e)) in
+      let (o, stores) = places_outcome job h word kind factor horizon cuts list (λ places. on horizon cuts places good) in
+      (o, record { horizon = horizon; horizon_is = last; cuts = cuts; good = good; stores = stores })
+
+  -- also where a plan that is being written comes between
+  still_outcome : (job : Option Job) (word : List ℕ) (Rest : O → Type 0) → ((o : O) × Rest o) → (o : O) × OfStill job word (Refuses o) (Rest o)
+  still_outcome None word Rest rest = rest
+  still_outcome (Some job) word Rest rest = go (bytes_eq job.plan.word word)
+    where
+      go : (b : Bool) → (o : O) × ByWord b (Refuses o refusals.Busy) (Rest o)
+      go true = refuses refusals.Busy
+      go false = rest
+
+  pub idle_outcome : (job : Option Job) (word : List ℕ) (Rest : O → Type 0) → ((o : O) × Rest o) → (o : O) × OfIdle job word (Refuses o) (Rest o)
+  idle_outcome None word Rest rest = rest
+  idle_outcome (Some job) word Rest rest = go (bytes_eq job.plan.word word)
+    where
+      go : (b : Bool) → (o : O) × ByWord b (Refuses o refusals.Busy) (Refuses o refusals.OneJob)
+      go true = refuses refusals.Busy
+      go false = refuses refusals.OneJob
+
+pub plan_outcome : (job : Option Job) (h : History) (kind : Kind) (factor : Fraction) (word : List ℕ) (list : List Posting) → IsListUpTo h word (last_second h) list → 0 < length list
+    → (kind ≡ Guarantee → IsNarrow list (last_second h))
+    → (outcome : Outcome Reply History) × OfStill job word (λ why. Declines h why outcome.reply outcome.next) (StoresPlan job h kind factor word list outcome.reply outcome.next)
+plan_outcome job h kind factor word list is some narrow =
+    let D : Outcome Reply History → Refusal → Type 0 = λ o why. Declines h why o.reply o.next in
+    let A : Outcome Reply History → PlanEntry → Type 0 = λ o plan. AddsPlan h plan (full_journal h (entries.Planned plan)) list o.reply o.next in
+    let declines : (why : Refusal) → (o : Outcome Reply History) × D o why = λ why. (record { reply = Refused why; next = h }, (refl, refl)) in
+    still_outcome D A declines job word (λ o. StoresPlan job h kind factor word list o.reply o.next)
+    (chooses_outcome D A declines job h kind factor word list is some narrow
+    (λ horizon cuts places good.
     let (cost, costs) = each_has_a_cost kind list factor cuts horizon good in
-    let (outcome, stores) = cuts_outcome h word kind factor horizon cuts list cost costs in
-    (outcome, record { horizon = horizon; horizon_is = last; cuts = cuts; good = good; stores = stores })
+    let plan = in_blocks word kind factor horizon cuts places in
+    adds_plan_outcome h plan (full_journal h (entries.Planned plan)) list cost costs))
+
+takes_on_outcome : (w : World) (plan : PlanEntry) (refusal : Option Refusal) (list : List Posting) → (outcome : Outcome Reply World) × TakesOn w plan refusal list outcome.reply outcome.next
+takes_on_outcome w plan None list = (record { reply = _; next = _ }, (refl, refl))
+takes_on_outcome w plan (Some why) list = (record { reply = Refused why; next = w }, (refl, refl))
+
+pub begin_outcome : (w : World) (factor : Fraction) (word : List ℕ) (list : List Posting) → IsListUpTo w.history word (last_second w.history) list → 0 < length list → IsNarrow list (last_second w.history)
+    → (outcome : Outcome Reply World) × OfIdle w.job word (λ why. Idles w why outcome.reply outcome.next)
+    (ChoosesPlan w.job w.history Guarantee factor word list (λ why. Idles w why outcome.reply outcome.next) (λ plan. TakesOn w plan (full_journal w.history (entries.Planned plan)) list outcome.reply outcome.next))
+begin_outcome w factor word list is some narrow =
+    let D : Outcome Reply World → Refusal → Type 0 = λ o why. Idles w why o.reply o.next in
+    let A : Outcome Reply World → PlanEntry → Type 0 = λ o plan. TakesOn w plan (full_journal w.history (entries.Planned plan)) list o.reply o.next in
+    let declines : (why : Refusal) → (o : Outcome Reply World) × D o why = λ why. (record { reply = Refused why; next = w }, (refl, refl)) in
+    idle_outcome D A declines w.job word (λ o. ChoosesPlan w.job w.history Guarantee factor word list (D o) (A o))
+    (chooses_outcome D A declines w.job w.history Guarantee factor word list is some (λ e. narrow)
+    (λ horizon cuts places good. (let plan = in_blocks word Guarantee factor horizon cuts places in takes_on_outcome w plan (full_journal w.history (entries.Planned plan)) list)))
 
 -- ---- what is stored is legal
 
 unchanged : (P : History → Type 0) (old new : History) → new ≡ old → P old → P new
 unchanged P old new same is = subst P (sym same) is
 
+-- whatever a plan that is chosen is, it is legal: so what holds where it is refused, and where it goes on, holds
+chosen_keeps : (C : Type 0) (Refuses : Refusal → Type 0) (GoesOn : PlanEntry → Type 0) → ((why : Refusal) → Refuses why → C)
+    → (job : Option Job) (h : History) (kind : Kind) (factor : Fraction) (phrase word : List ℕ) (list : List Posting) → ((plan : PlanEntry) → IsLegalEntry h (entries.Planned plan) → GoesOn plan → C)
+    → spelled_key (one_term phrase) ≡ Some word → IsListUpTo h word (last_second h) list → 0 < length list → ChoosesPlan job h kind factor word list Refuses GoesOn → C
+chosen_keeps C Refuses GoesOn refused job h kind factor phrase word list on term is some s = elim s.stores [
+  | inl full ↦ refused (refusals.Full Pages (limit_of Pages)) full.1
+  | inr fits ↦
+      let (places, placed, zip, adds) = fits in
+      on (in_blocks word kind factor s.horizon s.cuts places) (plan_legal h word kind factor s.horizon s.cuts places list (spelled_word phrase word term) s.horizon_is is some s.good zip) adds
+]
+
+-- what holds where a plan is refused, and where it isn't, holds beside a plan that is being written
+pub still_keeps : (C : Type 0) (Refuses : Refusal → Type 0) (Rest : Type 0) → ((why : Refusal) → Refuses why → C) → (Rest → C) → (job : Option Job) (word : List ℕ) → OfStill job word Refuses Rest → C
+still_keeps C Refuses Rest refused rest None word of = rest of
+still_keeps C Refuses Rest refused rest (Some job) word of = go (bytes_eq job.plan.word word) of
+  where
+    go : (b : Bool) → ByWord b (Refuses refusals.Busy) Rest → C
+    go true is = refused refusals.Busy is
+    go false is = rest is
+
+pub idle_keeps : (C : Type 0) (Refuses : Refusal → Type 0) (Rest : Type 0) → ((why : Refusal) → Refuses why → C) → (Rest → C) → (job : Option Job) (word : List ℕ) → OfIdle job word Refuses Rest → C
+idle_keeps C Refuses Rest refused rest None word of = rest of
+idle_keeps C Refuses Rest refused rest (Some job) word of = go (bytes_eq job.plan.word word) of
+  where
+    go : (b : Bool) → ByWord b (Refuses refusals.Busy) (Refuses refusals.OneJob) → C
+    go true is = refused refusals.Busy is
+    go false is = refused refusals.OneJob is
+
 -- what is so of a history, and stays so with a legal entry more, is so of what a plan leads to
 pub plans_keep : (P : History → Type 0) → ((h : History) (e : Entry) → P h → IsLegalEntry h e → P (h ++ e ∷ []))
-    → (h : History) (phrase : List ℕ) (kind : Kind) (factor : Fraction) (reply : Reply) (next : History) → P h → Plans h phrase kind factor reply next → P next
-plans_keep P push h phrase kind factor reply next legal =
-    of_phrase kind h (P next) (λ why. Declines h why reply next) (λ word list. StoresPlan h kind factor word list reply next) (spelled_key (one_term phrase))
-    (λ why declines. unchanged P h next declines.0 legal)
-    (λ word list term is some stores. stored word list term is some stores)
+    → (job : Option Job) (h : History) (phrase : List ℕ) (kind : Kind) (factor : Fraction) (reply : Reply) (next : History) → P h → Plans job h phrase kind factor reply next → P next
+plans_keep P push job h phrase kind factor reply next legal =
+    of_phrase kind h (P next) D (λ word list. OfStill job word D (StoresPlan job h kind factor word list reply next)) (spelled_key (one_term phrase)) declined
+    (λ word list term is some of. still_keeps (P next) D (StoresPlan job h kind factor word list reply next) declined
+    (λ stores. chosen_keeps (P next) D (A list) declined job h kind factor phrase word list (λ plan entry. added plan (full_journal h (entries.Planned plan)) list entry) term is some stores) job word of)
   where
+    D : Refusal → Type 0
+    D why = Declines h why reply next
+
+    A : List Posting → PlanEntry → Type 0
+    A list plan = AddsPlan h plan (full_journal h (entries.Planned plan)) list reply next
+
+    declined : (why : Refusal) → Declines h why reply next → P next
+    declined why declines = unchanged P h next declines.0 legal
+
     added : (plan : PlanEntry) (refusal : Option Refusal) (list : List Posting) → IsLegalEntry h (entries.Planned plan) → AddsPlan h plan refusal list reply next → P next
     added plan None list entry adds = subst P (sym adds.0) (push h (entries.Planned plan) legal entry)
     added plan (Some why) list entry adds = unchanged P h next adds.0 legal
 
-    stored : (word : List ℕ) (list : List Posting) → spelled_key (one_term phrase) ≡ Some word → IsListUpTo h word (last_second h) list → 0 < length list → StoresPlan h kind factor word list reply next → P next
-    stored word list term is some s = elim s.stores [
-      | inl full ↦ unchanged P h next full.1.0 legal
-      | inr fits ↦
-          let (places, placed, zip, adds) = fits in
-          let plan = in_blocks word kind factor s.horizon s.cuts places in
-          added plan (full_journal h (entries.Planned plan)) list (plan_legal h word kind factor s.horizon s.cuts places list (spelled_word phrase word term) s.horizon_is is some s.good zip) adds
-    ]
+-- ---- a plan that is being written
+
+-- it could be stored behind one entry more
+pub job_later : (h : History) (e : Entry) (job : Option Job) → entry_refusal h e ≡ None → MayBeStored h job → MayBeStored (h ++ e ∷ []) job
+job_later h e None allowed may = tt
+job_later h e (Some job) allowed legal =
+    let later = later_push h e allowed in
+    let may = legal.planned in
+    record {
+      ranges = legal.ranges;
+      allowed = refl;
+      planned = record {
+        past = omega (arith, may.past, later.last);
+        list = may.list;
+        list_is = list_later h (h ++ e ∷ []) job.plan.word job.plan.horizon.seconds may.list later may.past may.list_is;
+        some = may.some;
+        suits = may.suits;
+      };
+    }
+
+-- so a state stays fair where a legal entry comes behind it, or a plan is begun
+pub begins_keep : (P : History → Type 0) (w : World) (phrase : List ℕ) (factor : Fraction) (reply : Reply) (next : World) → IsFair P w → Begins w phrase factor reply next → IsFair P next
+begins_keep P w phrase factor reply next fair =
+    of_phrase Guarantee w.history (IsFair P next) D (λ word list. OfIdle w.job word D (ChoosesPlan w.job w.history Guarantee factor word list D (A list))) (spelled_key (one_term phrase)) declined
+    (λ word list term is some of. idle_keeps (IsFair P next) D (ChoosesPlan w.job w.history Guarantee factor word list D (A list)) declined
+    (λ chooses. chosen_keeps (IsFair P next) D (A list) declined w.job w.history Guarantee factor phrase word list (λ plan entry. taken_on plan (full_journal w.history (entries.Planned plan)) list entry) term is some chooses) w.job word of)
+  where
+    D : Refusal → Type 0
+    D why = Idles w why reply next
+
+    A : List Posting → PlanEntry → Type 0
+    A list plan = TakesOn w plan (full_journal w.history (entries.Planned plan)) list reply next
+
+    declined : (why : Refusal) → Idles w why reply next → IsFair P next
+    declined why idles = subst (IsFair P) (sym idles.0) fair
+
+    taken_on : (plan : PlanEntry) (refusal : Option Refusal) (list : List Posting) → IsLegalEntry w.history (entries.Planned plan) → TakesOn w plan refusal list reply next → IsFair P next
+    taken_on plan None list entry takes = subst (IsFair P) (sym takes.0) (record { history = fair.history; job = entry })
+    taken_on plan (Some why) list entry takes = subst (IsFair P) (sym takes.0) fair

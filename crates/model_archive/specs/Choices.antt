@@ -16,11 +16,13 @@ IsChoice (items.Command (commands.Propose word fraction)) = Unit {0}
 IsChoice (items.Command (commands.Plan word kind fraction)) = Unit {0}
 IsChoice (items.Command (commands.Best count at expr)) = Unit {0}
 IsChoice (items.Command (commands.Share factor words)) = Unit {0}
+IsChoice (items.Command (commands.Begin word fraction)) = Unit {0}
 IsChoice other = ⊥
 
--- the item asks for a plan to be stored
+-- the item asks for a plan to be stored, at once or step by step
 abbrev pub IsStoring : Item → Type 0
 IsStoring (items.Command (commands.Plan word kind fraction)) = Unit {0}
+IsStoring (items.Command (commands.Begin word fraction)) = Unit {0}
 IsStoring other = ⊥
 
 -- the item asks for a budget to be shared

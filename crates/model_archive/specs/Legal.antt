@@ -1,6 +1,6 @@
 -- Which histories are legal, and which a load accepts. They differ in what is asked of a stored plan: in a legal history each is what its kind
 -- promises, a least one or a best one; a load tests that it keeps its bound.
-use Rattle.std.specs.Prelude.{◌≡◌, ◌≤◌, ◌<◌, List, [], ◌∷◌, ◌++◌, length, None}
+use Rattle.std.specs.Prelude.{◌≡◌, ◌≤◌, ◌<◌, List, [], ◌∷◌, ◌++◌, length, Option, Some, None}
 use Rattle.base_types.specs.declared.posting.Posting.{Posting}
 use Rattle.plans_kinds.specs.Plans.{Asks, IsGoodPlan, IsFitFor}
 use Rattle.journal_entries.specs.Spelling.{IsEntry}
@@ -9,6 +9,7 @@ use Rattle.journal_entries.specs.declared.entry.Entry.TheVariants.{Planned}
 use Rattle.journal_entries.specs.declared.plan.PlanEntry.{PlanEntry}
 use Rattle.model_archive.specs.Histories.{History, entry_refusal}
 use Rattle.model_archive.specs.Planning.{IsListUpTo, last_second}
+use Rattle.model_archive.specs.Worlds.{Job, World}
 
 -- A plan may come after a history: its horizon isn't later than the last time, its word has postings before the horizon (so some text has the
 -- word), and it is Good for the list of these, which stands for what is asked of plans by their kind.
@@ -55,3 +56,13 @@ IsLegal history = EachMayCome IsGoodPlan [] history
 -- a load accepts a history
 abbrev pub IsLoadable : History → Type 0
 IsLoadable history = EachMayCome IsFitFor [] history
+
+-- a plan that is being written could be stored behind a history
+abbrev pub MayBeStored : History → Option Job → Type 0
+MayBeStored history None = Unit {0}
+MayBeStored history (Some job) = IsLegalEntry history (Planned job.plan)
+
+-- a state in which this holds of the history, and a plan that is being written could be stored behind it
+pub record IsFair (Holds : History → Type 0) (world : World) : Type 0 where
+  pub history : Holds world.history
+  pub job : MayBeStored world.history world.job

@@ -16,7 +16,7 @@ use Rattle.model_archive.specs.declared.summary.Summary.{Summary}
 use Rattle.model_archive.specs.declared.verdict.Verdict.{Verdict}
 use Rattle.model_archive.specs.declared.verdict.Verdict.TheVariants.{Sound, Differs, NotLeast, BadText}
 use Rattle.model_archive.specs.Refusals.{number_of}
-use Rattle.model_archive.specs.Steps.{Reply, Accepted, Refused, RefusedIn, Found, FoundBest, Spanned, Approximated, Neared, Version, Proposed, Planned, Verified, Shared}
+use Rattle.model_archive.specs.Steps.{Reply, Accepted, Refused, RefusedIn, Found, FoundBest, Spanned, Approximated, Neared, Version, Proposed, Planned, Verified, Shared, Begun, Finished, Silent}
 
 -- the name of a limit in a reply
 abbrev pub which_text : Which → List ℕ
@@ -137,11 +137,20 @@ abbrev pub cost_text : Option ℕ → List ℕ
 cost_text None = []
 cost_text (Some cost) = codes " cost " ++ decimal cost
 
--- the line of a plan that was stored
-abbrev pub summary_text : Summary → List ℕ
-summary_text s = codes "plan " ++ decimal s.length ++ codes " segments " ++ decimal s.segments ++ codes " space " ++ decimal s.space
+-- the line of a plan that was stored, behind this word
+abbrev pub summary_line : List ℕ → Summary → List ℕ
+summary_line word s = word ++ codes " " ++ decimal s.length ++ codes " segments " ++ decimal s.segments ++ codes " space "
+    ++ decimal s.space
     ++ codes " full " ++ decimal s.full
     ++ codes " horizon " ++ decimal s.horizon.seconds ++ cost_text s.cost ++ 10 ∷ []
+
+-- the line of a plan that was stored at once
+abbrev pub summary_text : Summary → List ℕ
+summary_text s = summary_line (codes "plan") s
+
+-- the line of a plan that was begun: how many segments and pages it has
+abbrev pub begun_text : ℕ → ℕ → List ℕ
+begun_text segments pages = codes "begun " ++ decimal segments ++ codes " " ++ decimal pages ++ 10 ∷ []
 
 -- a digit in base 16
 abbrev pub digit_text : ℕ → ℕ
@@ -190,3 +199,6 @@ reply_text (Proposed segments nodes total) = proposal_text segments nodes total
 reply_text (Planned summary) = summary_text summary
 reply_text (Verified verdict) = verdict_text verdict ++ 10 ∷ []
 reply_text (Shared shares unit budget cost) = shared_text shares unit budget cost
+reply_text (Begun segments pages) = begun_text segments pages
+reply_text (Finished summary) = summary_line (codes "done") summary
+reply_text Silent = []

@@ -51,16 +51,16 @@ ends_at_40 = refl
 -- what arrived is refused when it comes again, and a document that is new may have an earlier version's time but none before the last
 same_time_refused : Step arrived (arrival 7 (record { seconds = 10; before_now = lit< tt }) (codes "red a")) (Refused refusals.SameTime) arrived
 unfolding is_utf8 chars encode
-same_time_refused = ((refl, refl), refl)
+same_time_refused = ((refl, refl), refl, refl)
 
 time_back_refused : Step arrived (arrival 8 (record { seconds = 5; before_now = lit< tt }) (codes "red")) (Refused (refusals.TimeBack (record { seconds = 10; before_now = lit< tt }))) arrived
 unfolding is_utf8 chars encode
-time_back_refused = ((refl, refl), refl)
+time_back_refused = ((refl, refl), refl, refl)
 
 -- bytes that aren't UTF-8 are refused first, at the length of the front that is
 bad_text_refused : Step arrived (arrival 9 (record { seconds = 5; before_now = lit< tt }) (97 ∷ 195 ∷ 40 ∷ [])) (Refused (refusals.BadText 1)) arrived
 unfolding is_utf8 chars encode utf8_valid_len
-bad_text_refused = ((refl, refl), refl)
+bad_text_refused = ((refl, refl), refl, refl)
 
 -- the version is alive from its time on
 alive_from_ten : (alive one_arrival 9 ≡ []) × (alive one_arrival 10 ≡ (doc 7, codes "red a") ∷ [])

@@ -1,7 +1,7 @@
 -- Runs of a machine that may choose, what a run has acknowledged, and what the images that it left stand for. The machine is any:
 -- its states, events and replies, its step, the text of a reply, and which images stand for a state. An event is what takes the machine
 -- on and has a reply: here each is an item of the input.
-use Rattle.std.specs.Prelude.{◌≡◌, ◌⊎◌, ℕ, ◌+◌, ◌≤◌, zero, suc, List, [], ◌∷◌, ◌++◌, length, take}
+use Rattle.std.specs.Prelude.{◌≡◌, ◌⊎◌, ℕ, Bool, true, false, ◌+◌, ◌≤◌, zero, suc, List, [], ◌∷◌, ◌++◌, length, take}
 use Rattle.std.specs.List.{flat_map}
 use Rattle.machine_model.specs.Areas.{Bytes}
 use Rattle.machine_model.specs.Pushes.{IsPrefix}
@@ -17,6 +17,26 @@ IsRun step state [] [] = Unit {0}
 IsRun step state (event ∷ events) (outcome ∷ outcomes) = step state event outcome.reply outcome.next
     × IsRun step outcome.next events outcomes
 IsRun step state events outcomes = ⊥
+
+-- Behind an event: where work is under way, one stint of it comes, and then the rest; where none is, the rest alone.
+abbrev pub AfterStint : {S R : Type 0} → (S → R → S → Type 0) → Bool → S → List (Outcome R S) → (S → List (Outcome R S) → Type 0) → Type 0
+AfterStint stint false state outcomes Rest = Rest state outcomes
+AfterStint stint true state [] Rest = ⊥
+AfterStint stint true state (work ∷ outcomes) Rest = stint state work.reply work.next × Rest work.next outcomes
+
+-- A run of a machine that works on its own too: an outcome for each event, each a step from the state before; and behind an event that came while work
+-- was under way one for a stint of the work.
+abbrev pub IsRunWith : {S E R : Type 0} → (S → E → R → S → Type 0) → (S → R → S → Type 0) → (S → Bool) → S → List E → List (Outcome R S)
+    → Type 0
+IsRunWith step stint at_work state [] outcomes = outcomes ≡ []
+IsRunWith step stint at_work state (event ∷ events) [] = ⊥
+IsRunWith step stint at_work state (event ∷ events) (outcome ∷ outcomes) = step state event outcome.reply outcome.next
+    × AfterStint stint (at_work state) outcome.next outcomes (λ next rest. IsRunWith step stint at_work next events rest)
+
+-- stints in a row
+abbrev pub AreStints : {S R : Type 0} → (S → R → S → Type 0) → S → List (Outcome R S) → Type 0
+AreStints stint state [] = Unit {0}
+AreStints stint state (work ∷ outcomes) = stint state work.reply work.next × AreStints stint work.next outcomes
 
 -- the state after so many outcomes
 abbrev pub state_after : {S R : Type 0} → S → List (Outcome R S) → ℕ → S

@@ -1,10 +1,11 @@
--- The machine that an archive is: what an item of the input does to a history, and what is replied.
-use Rattle.std.specs.Prelude.{◌≡◌, ◌⊎◌, ℕ, ◌+◌, ◌^◌, nat_lt, Bool, true, false, not, if◌then◌else◌, List, [], ◌∷◌, ◌++◌, length, take, Option, Some, None, unwrap_or, Result, Ok, Err}
+-- The machine that an archive is: what an item of the input does to its state, what a stint of work does, and what is replied.
+use Rattle.std.specs.Prelude.{◌≡◌, ◌⊎◌, ℕ, ◌+◌, ◌-◌, ◌^◌, Bool, true, false, nat_lt, bytes_eq, sum_by, not, if◌then◌else◌, List, [], ◌∷◌, ◌++◌, length, take, Option, Some, None, unwrap_or, Result, Ok, Err}
 use Rattle.std.specs.List.{AllZip, flat_map}
 use Rattle.std.specs.Option.{option_map}
 use Rattle.std.specs.Str.{is_utf8}
 use Rattle.std.specs.Str.Lossy.{utf8_valid_len}
 use Rattle.base_types.specs.Limits.{limit_of}
+use Rattle.base_types.specs.declared.extent.Extent.{Extent}
 use Rattle.base_types.specs.declared.fraction.Fraction.{Fraction}
 use Rattle.base_types.specs.declared.ids.DocId.{DocId}
 use Rattle.base_types.specs.declared.posting.Posting.{Posting}
@@ -38,6 +39,7 @@ use Rattle.journal_entries.specs.declared.place.Layout.TheVariants.{Blocks}
 use Rattle.journal_entries.specs.declared.place.Place.{Place}
 use Rattle.journal_entries.specs.declared.plan.PlanEntry.{PlanEntry}
 use Rattle.pages_area.specs.Placing.{ArePlaced, HaveNoRoom}
+use Rattle.pages_area.specs.Runs.{pages_for}
 use Rattle.pages_sublists.specs.Preparing.{IsFor, extents, sizes, spellings}
 use Rattle.pages_sublists.specs.Segments.{seconds}
 use Rattle.plans_share.specs.declared.asked.Asking.{Asking}
@@ -62,13 +64,13 @@ use Rattle.model_archive.specs.Answers.{IsAnswerAt, IsSpanAnswerAt, IsWordList}
 use Rattle.model_archive.specs.Bests.{AreFoundByBlocks}
 use Rattle.model_archive.specs.Chosen.{IsReadFor}
 use Rattle.model_archive.specs.Planning.{OfPhrase, OfTerm, IsListUpTo, last_second}
-use Rattle.model_archive.specs.Plans.{live_extents, plan_of}
+use Rattle.model_archive.specs.Plans.{plan_of}
 use Rattle.model_archive.specs.Rough.{IsRoughAnswer}
 use Rattle.model_archive.specs.Sharing.{IsShared, Notes, OfPhrases}
 use Rattle.model_archive.specs.Verifying.{Verifies}
-use Rattle.model_archive.specs.Worlds.{World}
+use Rattle.model_archive.specs.Worlds.{Job, World, taken_in, world_of}
 
--- what an item is answered
+-- what an item is answered, or what is said of work that no item asked for
 pub data Reply : Type 0 where
   -- it is carried out, and the history has so many entries now
   Accepted : ℕ → Reply
@@ -96,6 +98,12 @@ pub data Reply : Type 0 where
   Verified : Verdict → Reply
   -- words' shares of a budget, how many postings its unit is, how many units it has, and what reads of all these words are expected to cost
   Shared : List Share → ℕ → ℕ → ℕ → Reply
+  -- a plan is begun, with so many segments and pages
+  Begun : ℕ → ℕ → Reply
+  -- a plan that was begun is stored
+  Finished : Summary → Reply
+  -- there is nothing to say
+  Silent : Reply
 
 -- the text has more bytes than a text may have
 abbrev pub too_long : List ℕ → Option Refusal
@@ -264,23 +272,28 @@ AddsPlan old plan None list reply new =
     })))
 AddsPlan old plan (Some why) list reply new = Declines old why reply new
 
--- A plan with these cuts is stored: each segment's sublist takes the lowest run of pages that no live place and no earlier segment has. Where
--- there is no such run, it is refused.
-abbrev pub StoresCuts : History → List ℕ → Kind → Fraction → Time → List Time → List Posting → Reply → History → Type 0
-StoresCuts old word kind factor horizon cuts list reply new = let bytes = spellings Blocks list (seconds cuts) horizon.seconds in
-    (HaveNoRoom (live_extents old) (sizes bytes) × Declines old (refusals.Full Pages (limit_of Pages)) reply new)
-    ⊎ ((places : List Place) × ArePlaced (live_extents old) (sizes bytes) (extents places) × AllZip IsFor places bytes
-    × (let plan = in_blocks word kind factor horizon cuts places in AddsPlan old plan (full_journal old (entries.Planned plan)) list reply
-    new))
+-- The places of a plan with these cuts: each segment's sublist takes the lowest run of pages that no live place, none of a plan that is being
+-- written, and no earlier segment has. Where there is no such run, it is refused.
+abbrev pub TakesPlaces : Option Job → History → List ℕ → Kind → Fraction → Time → List Time → List Posting → (Refusal → Type 0)
+    → (PlanEntry → Type 0) → Type 0
+TakesPlaces job old word kind factor horizon cuts list Refuses GoesOn = let bytes = spellings Blocks list (seconds cuts) horizon.seconds in
+    (HaveNoRoom (taken_in job old) (sizes bytes) × Refuses (refusals.Full Pages (limit_of Pages)))
+    ⊎ ((places : List Place) × ArePlaced (taken_in job old) (sizes bytes) (extents places) × AllZip IsFor places bytes
+    × GoesOn (in_blocks word kind factor horizon cuts places))
 
--- any plan of a word's list up to the last time that is what its kind promises is stored, if there is room for it
-pub record StoresPlan (old : History) (kind : Kind) (factor : Fraction) (word : List ℕ) (list : List Posting) (reply : Reply)
-    (new : History) : Type 0 where
+-- any plan of a word's list up to the last time that is what its kind promises, if there is room for its sublists
+pub record ChoosesPlan (job : Option Job) (old : History) (kind : Kind) (factor : Fraction) (word : List ℕ) (list : List Posting)
+    (Refuses : Refusal → Type 0) (GoesOn : PlanEntry → Type 0) : Type 0 where
   pub horizon : Time
   pub horizon_is : horizon.seconds ≡ last_second old
   pub cuts : List Time
   pub good : IsGoodPlan kind list factor cuts horizon.seconds
-  pub stores : StoresCuts old word kind factor horizon cuts list reply new
+  pub stores : TakesPlaces job old word kind factor horizon cuts list Refuses GoesOn
+
+-- it is stored, if the journal has room for its entry
+abbrev pub StoresPlan : Option Job → History → Kind → Fraction → List ℕ → List Posting → Reply → History → Type 0
+StoresPlan job old kind factor word list reply new = ChoosesPlan job old kind factor word list (λ why. Declines old why reply new)
+    (λ plan. AddsPlan old plan (full_journal old (entries.Planned plan)) list reply new)
 
 -- A term's key, if it is UTF-8, as an entry's word has to be. (A key encodes what Unicode's tables give, so each should be. That isn't proved of
 -- the tables, so it is asked here; a phrase whose key weren't UTF-8 would be refused as NotOneTerm.)
@@ -288,11 +301,56 @@ abbrev pub spelled_key : Option (List ℕ) → Option (List ℕ)
 spelled_key None = None
 spelled_key (Some key) = if is_utf8 key then Some key else None
 
+-- the first where the word is that of the plan, the second where it is another
+abbrev pub ByWord : Bool → Type 0 → Type 0 → Type 0
+ByWord true Same Other = Same
+ByWord false Same Other = Other
+
+-- a plan of a word can't be stored while one of it is being written
+abbrev pub OfStill : Option Job → List ℕ → (Refusal → Type 0) → Type 0 → Type 0
+OfStill None word Refuses GoesOn = GoesOn
+OfStill (Some job) word Refuses GoesOn = ByWord (bytes_eq job.plan.word word) (Refuses refusals.Busy) GoesOn
+
+-- none can be begun while one is being written, of this word or of another
+abbrev pub OfIdle : Option Job → List ℕ → (Refusal → Type 0) → Type 0 → Type 0
+OfIdle None word Refuses GoesOn = GoesOn
+OfIdle (Some job) word Refuses GoesOn = ByWord (bytes_eq job.plan.word word) (Refuses refusals.Busy) (Refuses refusals.OneJob)
+
 -- what becomes of a phrase that is to be planned: it is refused, or a plan of its word's list is stored that is what its kind promises
-abbrev pub Plans : History → List ℕ → Kind → Fraction → Reply → History → Type 0
-Plans old phrase kind factor reply new =
+abbrev pub Plans : Option Job → History → List ℕ → Kind → Fraction → Reply → History → Type 0
+Plans job old phrase kind factor reply new =
     OfPhrase kind old (spelled_key (one_term phrase)) (λ why. Declines old why reply new)
-    (λ word list. StoresPlan old kind factor word list reply new)
+    (λ word list. OfStill job word (λ why. Declines old why reply new) (StoresPlan job old kind factor word list reply new))
+
+-- a plan is begun, or this is why not, and nothing changes
+abbrev pub Idles : World → Refusal → Reply → World → Type 0
+Idles old why reply new = (new ≡ old) × (reply ≡ Refused why)
+
+-- how many pages these extents take
+abbrev pub pages_in : List Extent → ℕ
+pages_in all = sum_by (λ (e : Extent). pages_for e.bytes) all
+
+-- A plan is taken on, if the journal would have room for its entry: nothing is written yet.
+abbrev pub TakesOn : World → PlanEntry → Option Refusal → List Posting → Reply → World → Type 0
+TakesOn old plan None list reply new =
+    (new ≡ record old {
+      job = Some (record {
+        plan = plan;
+        space = plan_space list plan.cuts plan.horizon.seconds;
+        full = length list;
+        left = pages_in (extents plan.places);
+      });
+    })
+    × (reply ≡ Begun (length plan.cuts) (pages_in (extents plan.places)))
+TakesOn old plan (Some why) list reply new = Idles old why reply new
+
+-- what becomes of a phrase of which a plan is to be begun: it is refused, or a least plan is chosen and placed as one that is stored
+abbrev pub Begins : World → List ℕ → Fraction → Reply → World → Type 0
+Begins old phrase factor reply new =
+    OfPhrase Guarantee old.history (spelled_key (one_term phrase)) (λ why. Idles old why reply new)
+    (λ word list. OfIdle old.job word (λ why. Idles old why reply new)
+    (ChoosesPlan old.job old.history Guarantee factor word list (λ why. Idles old why reply new)
+    (λ plan. TakesOn old plan (full_journal old.history (entries.Planned plan)) list reply new)))
 
 -- a version arrives, with a text that was held, or with one that is too long to be
 abbrev pub Arrives : History → DocId → Time → Text → Reply → History → Type 0
@@ -370,28 +428,67 @@ abbrev pub Batches : History → BatchItems → Reply → History → Type 0
 Batches old (Items items) reply new = AddsBatch old (entries.Batch (flat_map act_of items)) (batch_cause old items) reply new
 Batches old (TooLong bytes) reply new = Declines old (unwrap_or (old_format old) (refusals.BatchTooLong most_batch)) reply new
 
--- from the old history, the archive may give this reply to the command and go on to the new one, by what was asked before; a command to come is
--- refused as a line that is none
-abbrev pub CarriesOut : List Asking → History → Command → Reply → History → Type 0
-CarriesOut asked old (commands.Arrive doc at text) reply new = Arrives old doc at text reply new
-CarriesOut asked old (commands.Delete doc at) reply new = Adds old (entries.Delete doc at) (deletion_refusal old doc at) reply new
-CarriesOut asked old commands.Format reply new = Adds old entries.Format (mark_refusal old) reply new
-CarriesOut asked old (commands.Batch batch) reply new = Batches old batch reply new
-CarriesOut asked old (commands.Find at expr) reply new = (new ≡ old) × Finds old at expr reply
-CarriesOut asked old (commands.Top count at expr) reply new = (new ≡ old) × Tops old count at expr reply
-CarriesOut asked old (commands.Approx word tolerance) reply new = (new ≡ old) × Approximates old word tolerance reply
-CarriesOut asked old (commands.Rough tolerance at expr) reply new = (new ≡ old) × Nears old tolerance at expr reply
-CarriesOut asked old (commands.Best count at expr) reply new = (new ≡ old) × Bests (asks_for_any expr) old count at expr reply
-CarriesOut asked old (commands.Show doc at) reply new = (new ≡ old) × (reply ≡ Version (text_at old doc at.seconds))
-CarriesOut asked old (commands.Plan word kind fraction) reply new = Plans old word kind fraction reply new
-CarriesOut asked old (commands.Propose word fraction) reply new = (new ≡ old) × Proposes old word fraction reply
-CarriesOut asked old (commands.Between span expr) reply new = (new ≡ old) × Spans old span expr reply
-CarriesOut asked old (commands.Certificate word) reply new = (new ≡ old) × Certifies old word reply
-CarriesOut asked old commands.Verify reply new = (new ≡ old) × ((verdict : Verdict) × Verifies old verdict × (reply ≡ Verified verdict))
-CarriesOut asked old (commands.Share factor words) reply new = (new ≡ old) × Shares asked old words factor.fraction reply
-CarriesOut asked old to_come reply new = Declines old refusals.Line reply new
+-- From the old history, the archive may give this reply to the command and go on to the new one, by what was asked before and the plan that is being
+-- written, if one is. (`begin` is a step of its own.)
+abbrev pub CarriesOut : List Asking → Option Job → History → Command → Reply → History → Type 0
+CarriesOut asked job old (commands.Arrive doc at text) reply new = Arrives old doc at text reply new
+CarriesOut asked job old (commands.Delete doc at) reply new = Adds old (entries.Delete doc at) (deletion_refusal old doc at) reply new
+CarriesOut asked job old commands.Format reply new = Adds old entries.Format (mark_refusal old) reply new
+CarriesOut asked job old (commands.Batch batch) reply new = Batches old batch reply new
+CarriesOut asked job old (commands.Find at expr) reply new = (new ≡ old) × Finds old at expr reply
+CarriesOut asked job old (commands.Top count at expr) reply new = (new ≡ old) × Tops old count at expr reply
+CarriesOut asked job old (commands.Approx word tolerance) reply new = (new ≡ old) × Approximates old word tolerance reply
+CarriesOut asked job old (commands.Rough tolerance at expr) reply new = (new ≡ old) × Nears old tolerance at expr reply
+CarriesOut asked job old (commands.Best count at expr) reply new = (new ≡ old) × Bests (asks_for_any expr) old count at expr reply
+CarriesOut asked job old (commands.Show doc at) reply new = (new ≡ old) × (reply ≡ Version (text_at old doc at.seconds))
+CarriesOut asked job old (commands.Plan word kind fraction) reply new = Plans job old word kind fraction reply new
+CarriesOut asked job old (commands.Propose word fraction) reply new = (new ≡ old) × Proposes old word fraction reply
+CarriesOut asked job old (commands.Between span expr) reply new = (new ≡ old) × Spans old span expr reply
+CarriesOut asked job old (commands.Certificate word) reply new = (new ≡ old) × Certifies old word reply
+CarriesOut asked job old commands.Verify reply new = (new ≡ old) × ((verdict : Verdict) × Verifies old verdict × (reply ≡ Verified verdict))
+CarriesOut asked job old (commands.Share factor words) reply new = (new ≡ old) × Shares asked old words factor.fraction reply
+CarriesOut asked job old other reply new = Declines old refusals.Line reply new
 
--- The step of the machine, over an item of the input: a command is carried out and noted, and a line that is none is refused.
+-- The step of the machine, over an item of the input: a command is carried out and noted, and a line that is none is refused. No item ends the work on a
+-- plan.
 abbrev pub Step : World → Item → Reply → World → Type 0
-Step old (items.Command command) reply new = CarriesOut old.asked old.history command reply new.history × Notes old.asked command new.asked
-Step old items.Line reply new = Declines old.history refusals.Line reply new.history × (new.asked ≡ old.asked)
+Step old (items.Command (commands.Begin word fraction)) reply new = Begins old word fraction reply new
+Step old (items.Command command) reply new = CarriesOut old.asked old.job old.history command reply new.history
+    × Notes old.asked command new.asked × (new.job ≡ old.job)
+Step old items.Line reply new = Idles old refusals.Line reply new
+
+-- so many pages are written in one stint
+abbrev pub stint_pages : ℕ
+stint_pages = 8
+
+-- The entry comes behind the history, or there is no room for it; and no plan is under way any more.
+abbrev pub Finishes : World → Job → Option Refusal → Reply → World → Type 0
+Finishes old job None reply new = let next = old.history ++ entries.Planned job.plan ∷ [] in
+    (new ≡ record { history = next; asked = old.asked; job = None }) × (reply ≡ Finished (record {
+      length = length next;
+      segments = length job.plan.cuts;
+      space = job.space;
+      full = job.full;
+      horizon = job.plan.horizon;
+      cost = None;
+    }))
+Finishes old job (Some why) reply new = (new ≡ record old { job = None }) × (reply ≡ Refused why)
+
+-- a stint that leaves pages says nothing; the one that leaves none is the last
+abbrev pub WorksOn : Bool → World → Job → Reply → World → Type 0
+WorksOn true old job reply new = (new ≡ record old { job = Some (record job { left = job.left - stint_pages }) }) × (reply ≡ Silent)
+WorksOn false old job reply new = Finishes old job (full_journal old.history (entries.Planned job.plan)) reply new
+
+-- a stint of a plan that is being written, if one is
+abbrev pub WorksAt : World → Option Job → Reply → World → Type 0
+WorksAt old None reply new = ⊥
+WorksAt old (Some job) reply new = WorksOn (nat_lt stint_pages job.left) old job reply new
+
+-- What the machine does of its own: a stint of the work on the plan that is being written.
+abbrev pub Works : World → Reply → World → Type 0
+Works old reply new = WorksAt old old.job reply new
+
+-- how much is left to do
+abbrev pub left_of : Option Job → ℕ
+left_of None = 0
+left_of (Some job) = job.left + 1

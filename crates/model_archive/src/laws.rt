@@ -1,19 +1,19 @@
 //! What holds of histories and of the bytes that stand for them, whatever is read or written.
-ghost use Rattle.std.specs.Prelude.{◌≡◌, ◌+◌, ◌++◌, [], ◌∷◌, ℕ, length};
+ghost use Rattle.std.specs.Prelude.{◌≡◌, ◌+◌, ◌<◌, ◌++◌, true, [], ◌∷◌, ℕ, length};
 ghost use Rattle.machine_model.specs.Areas.{Bytes};
 ghost use Rattle.journal_gates.specs.Records.{front};
 ghost use Rattle.journal_entries.specs.declared.entry.Entry.{Entry};
 ghost use Rattle.model_archive.specs.Histories.{History, end_of};
-ghost use Rattle.model_archive.specs.Legal.{IsLegal, IsLegalEntry, IsLoadable};
+ghost use Rattle.model_archive.specs.Legal.{IsFair, IsLegal, IsLegalEntry, IsLoadable};
 ghost use Rattle.base_commands.specs.Documents.{HasDocument};
 ghost use Rattle.base_commands.specs.declared.command.Item.{Item};
 ghost use Rattle.model_archive.specs.Choices.{IsChoice, IsSharing, IsStoring, SameButChosen, SamePlanned};
 ghost use Rattle.model_archive.specs.declared.summary.Summary.{Summary};
-ghost use Rattle.model_archive.specs.Steps.{Reply, Planned, Step};
+ghost use Rattle.model_archive.specs.Steps.{Reply, Planned, Silent, Step, Works, left_of};
 ghost use Rattle.model_archive.specs.Runs.{Outcome};
 ghost use Rattle.model_archive.specs.Stands.{Stands, IsNotArchive, bodies_of};
 ghost use Rattle.model_archive.specs.Nearness.{NearByFrequencies, RoughIsNear, MadeRoughStands};
-ghost use Rattle.model_archive.specs.Worlds.{World};
+ghost use Rattle.model_archive.specs.Worlds.{World, at_work};
 ghost use Rattle.model_archive.specs.Bounds.{HoldersAreDocuments, PlannedReadsAreBounded, PlannedSpaceIsCapped, MadeAtStands, MadeOverStands, HeldIsUndamaged, UnplannedHitsAreAlive, CertifiedPlansAreLeast, GoodPlansAreSound};
 
 /// A history is legal exactly where each of its entries is legal after those before it, and a load
@@ -27,14 +27,15 @@ pub fn a_history_is_legal_entry_by_entry()
 {}
 
 /// The abstract archive never gets stuck, and chooses nothing but which least plan it proposes, which
-/// least or best plan it stores, how many blocks it opens, and which best choice it tells of words that
-/// share a budget. From a history that loads each item has an outcome. It is the only one where neither a
-/// plan nor a share nor rows by blocks are asked for; two outcomes that propose a plan differ in its
-/// segments alone, and two with first rows by blocks in how many were opened; and where
+/// least or best plan it stores, at once or step by step, how many blocks it opens, and which best choice
+/// it tells of words that share a budget. From a history that loads each item has an outcome. It is the
+/// only one where neither a plan nor a share nor rows by blocks are asked for; two outcomes that propose a
+/// plan differ in its segments alone, and two with first rows by blocks in how many were opened; and where
 /// two outcomes of one item each store a plan, their replies are the same but for the number of segments
 /// and, under a space bound, the space. (By its choice the one may find room in Pages where the other
 /// is refused.) Where the item's document is in range, an outcome leads from a history that loads to one
-/// that loads, and from a legal one to a legal one. Does nothing.
+/// that loads, and from a legal one to a legal one, behind which a plan that is being written could be
+/// stored still. Does nothing.
 pub fn each_item_has_one_outcome()
     ensures outcome { (w : World) (item : Item) → IsLoadable w.history
         → (outcome : Outcome Reply World) × Step w item outcome.reply outcome.next }
@@ -44,10 +45,21 @@ pub fn each_item_has_one_outcome()
         → (IsSharing item → ⊥) → Step w item reply next → Step w item other then → SameButChosen reply other × (next ≡ then) }
     ensures plans { (w : World) (item : Item) (one other : Summary) (next then : World) → Step w item (Planned one) next
         → Step w item (Planned other) then → SamePlanned one other }
-    ensures loads { (w : World) (item : Item) (reply : Reply) (next : World) → IsLoadable w.history → HasDocument item
-        → Step w item reply next → IsLoadable next.history }
-    ensures legal { (w : World) (item : Item) (reply : Reply) (next : World) → IsLegal w.history → HasDocument item → Step w item reply next
-        → IsLegal next.history }
+    ensures loads { (w : World) (item : Item) (reply : Reply) (next : World) → IsFair IsLoadable w → HasDocument item
+        → Step w item reply next → IsFair IsLoadable next }
+    ensures legal { (w : World) (item : Item) (reply : Reply) (next : World) → IsFair IsLegal w → HasDocument item → Step w item reply next
+        → IsFair IsLegal next }
+{}
+
+/// While a plan is being written, each stint of the work on it has an outcome, which leaves less to do. An
+/// outcome leads from a history that loads to one that loads, and from a legal one to a legal one; and one
+/// that says nothing keeps the history. Does nothing.
+pub fn each_stint_has_an_outcome()
+    ensures outcome { (w : World) → IsFair IsLoadable w → at_work w ≡ true → (reply : Reply)
+        × ((next : World) × Works w reply next × IsFair IsLoadable next × (left_of next.job < left_of w.job)) }
+    ensures loads { (w next : World) (reply : Reply) → IsFair IsLoadable w → Works w reply next → IsFair IsLoadable next }
+    ensures legal { (w next : World) (reply : Reply) → IsFair IsLegal w → Works w reply next → IsFair IsLegal next }
+    ensures silent { (w next : World) → Works w Silent next → next.history ≡ w.history }
 {}
 
 /// An image stands for one history at most, and one that stands for a history isn't refused at any

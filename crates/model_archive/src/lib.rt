@@ -19,9 +19,9 @@ mod verdict;
 
 pub use laws::{
     a_history_is_legal_entry_by_entry, an_archive_is_refused_at_one_place,
-    an_image_stands_for_one_history, each_item_has_one_outcome, good_plans_are_least_and_sound,
-    planned_reads_are_bounded, planned_space_is_capped, rough_answers_are_near,
-    what_is_made_of_held_pages_stands,
+    an_image_stands_for_one_history, each_item_has_one_outcome, each_stint_has_an_outcome,
+    good_plans_are_least_and_sound, planned_reads_are_bounded, planned_space_is_capped,
+    rough_answers_are_near, what_is_made_of_held_pages_stands,
 };
 pub use refusal::Refusal;
 pub use sharing::{Share, Sharing};

@@ -3,7 +3,8 @@ mod AskLemmas
 pub mod KeptLemmas
 pub mod PlaceLemmas
 pub mod WriteLemmas
-mod PagedLemmas
+pub mod PagedLemmas
+pub mod StintLemmas
 pub mod HoldLemmas
 mod UnionLemmas
 mod JoinLemmas

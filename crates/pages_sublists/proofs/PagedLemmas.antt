@@ -68,7 +68,7 @@ all_part P m s xs all i d within =
 
 -- ---- bytes that are outside of ranges
 
-untouched_part : (f : Kept → Range) (m s : ℕ) (ks : List Kept) (k : ℕ) → IsUntouched (map f ks) k → IsUntouched (map f (take m (drop s ks))) k
+pub untouched_part : (f : Kept → Range) (m s : ℕ) (ks : List Kept) (k : ℕ) → IsUntouched (map f ks) k → IsUntouched (map f (take m (drop s ks))) k
 untouched_part f zero s ks k un = tt
 untouched_part f (suc m) zero [] k un = tt
 untouched_part f (suc m) zero (x ∷ ks) k un = (un.0, untouched_part f m zero ks k un.1)
@@ -108,7 +108,7 @@ all_pieces P first bytes each =
     let is : get_or (range_with_len 0 n) i d ≡ i = get_or-range_with_len 0 n i d below ∙ zero-add i in
     subst (λ j. P (piece first bytes j)) (sym is) (each i below))
 
-piece_long : (first : ℕ) (bytes : List ℕ) (i : ℕ) → length (piece first bytes i).bytes ≡ min 4096 (length bytes - 4096 * i)
+pub piece_long : (first : ℕ) (bytes : List ℕ) (i : ℕ) → length (piece first bytes i).bytes ≡ min 4096 (length bytes - 4096 * i)
 piece_long first bytes i = omega (arith, length-take 4096 (drop (4096 * i) bytes), length-drop (4096 * i) bytes)
 
 -- each is one of its pages
@@ -473,14 +473,14 @@ pages_stay (x ∷ xs) ys was pages differ same stands =
     All-cons (IsHeld pages) x xs (page_stays x ys was pages (All-head D x xs differ) same (All-head (IsHeld was) x xs stands))
     (pages_stay xs ys was pages (All-tail D x xs differ) same (All-tail (IsHeld was) x xs stands))
 
-all_left : {X : Type 0} (P : X → Type 0) (xs ys : List X) → All P (xs ++ ys) → All P xs
+pub all_left : {X : Type 0} (P : X → Type 0) (xs ys : List X) → All P (xs ++ ys) → All P xs
 all_left P xs ys all i d within = subst P (get_or_append_left xs ys d i within) (all i d (omega (arith, within, length-append xs ys)))
 
-all_right : {X : Type 0} (P : X → Type 0) (xs ys : List X) → All P (xs ++ ys) → All P ys
+pub all_right : {X : Type 0} (P : X → Type 0) (xs ys : List X) → All P (xs ++ ys) → All P ys
 all_right P xs ys all i d within = subst P (get_or-append-add xs ys i d) (all (length xs + i) d (omega (arith, within, length-append xs ys)))
 
 -- each page is one of the places'
-pages_lie : (places : List Place) (all : List (List ℕ)) → AllZip IsFor places all → All (λ k. IsTaken (extents places) k.page) (pages_of (pieces_of places all))
+pub pages_lie : (places : List Place) (all : List (List ℕ)) → AllZip IsFor places all → All (λ k. IsTaken (extents places) k.page) (pages_of (pieces_of places all))
 pages_lie [] all each = All-nil (λ k. IsTaken (extents []) k.page)
 pages_lie (p ∷ places) [] each = absurd each
 pages_lie (p ∷ places) (b ∷ all) each =

@@ -154,7 +154,7 @@ pieces_end places all k ends = none (drop k places) (drop k all) (drop_all k pla
     none (p ∷ ps) bs is = absurd (omega (arith, ap (λ (l : List Place). length l) is))
 
 -- pieces lie where places do
-extents_same : (places : List Place) (all : List (List ℕ)) → AllZip IsFor places all → extents_of (pieces_of places all) ≡ extents places
+pub extents_same : (places : List Place) (all : List (List ℕ)) → AllZip IsFor places all → extents_of (pieces_of places all) ≡ extents places
 extents_same [] all each = refl
 extents_same (p ∷ places) [] each = absurd each
 extents_same (p ∷ places) (b ∷ all) each = ap (λ (es : List Extent). p.extent ∷ es) (extents_same places all each.1)

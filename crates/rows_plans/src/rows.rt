@@ -6,4 +6,5 @@ mod realistic;
 mod refusals;
 mod replies;
 mod spaces;
+mod steps;
 mod words;

@@ -12,7 +12,7 @@ use Rattle.base_commands.specs.declared.command.Item.{Item}
 use Rattle.base_commands.specs.declared.command.Item.TheVariants as items
 use Rattle.base_sample.specs.Samples.{changes, plans, questions, sample_of}
 use Rattle.model_archive.specs.declared.verdict.Verdict.{Verdict}
-use Rattle.model_archive.specs.Legal.{IsLoadable}
+use Rattle.model_archive.specs.Legal.{IsFair, IsLoadable}
 use Rattle.model_archive.specs.Steps.{Reply, Accepted, Refused, Found, Planned, Verified, Step}
 use Rattle.model_archive.specs.Runs.{Outcome, IsRun, state_after}
 use Rattle.model_archive.specs.Standing.{last_state}
@@ -23,7 +23,7 @@ use Rattle.model_archive.proofs.OutcomeLemmas.{run_on, step_loads}
 use Rattle.archive_replies.specs.Tallies.{tally_of}
 use Rattle.archive_replies.specs.declared.tally.Tally.{Tally}
 use Rattle.archive_hand.specs.States.{ArchiveState, AreInStep}
-use Rattle.archive_hand.proofs.StandingLemmas.{in_step_loads, in_step_stands}
+use Rattle.archive_hand.proofs.StandingLemmas.{in_step_fair, in_step_stands}
 use Rattle.run_sample.specs.declared.error.FillError.{FillError}
 use Rattle.run_sample.specs.declared.error.FillError.TheVariants as errors
 use Rattle.run_sample.specs.declared.note.Note.{Note}
@@ -84,7 +84,7 @@ ends_on w outcomes further new archive errors.Memory ends = still_among (λ s. E
 
 -- A sample that was ended early: the abstract archive goes on over the commands that were not reached.
 ended_early : (w : World) (commands done rest : List Command) (outcomes : List (Outcome Reply World)) (old new : DiskState) (archive : ArchiveState) (error : FillError)
-    → commands ≡ done ++ rest → IsRun Step w (map items.Command done) outcomes → IsLoadable (last_state w outcomes).history → All HasDocument (map items.Command rest)
+    → commands ≡ done ++ rest → IsRun Step w (map items.Command done) outcomes → IsFair IsLoadable (last_state w outcomes) → All HasDocument (map items.Command rest)
     → Fills w outcomes old new → EndsFilled w outcomes new archive (Err error) → IsFilled w commands (Err error) old new archive
 ended_early w commands done rest outcomes old new archive error are run loads range fills ends =
     let further = run_on (last_state w outcomes) (map items.Command rest) loads range in
@@ -165,7 +165,7 @@ counts_next w commands rest further command note tally more last next old mid ne
 pub filled_between : (w : World) (commands rest : List Command) (outcomes : List (Outcome Reply World)) (old now : DiskState) (archive : ArchiveState) → Goes w commands rest outcomes old now archive
     → All HasDocument (map items.Command rest) → IsFilled w commands (Err errors.Memory) old now archive
 filled_between w commands rest outcomes old now archive goes range =
-    ended_early w commands goes.done rest outcomes old now archive errors.Memory goes.commands_are goes.run (in_step_loads now archive (last_state w outcomes) goes.in_step) range goes.fills
+    ended_early w commands goes.done rest outcomes old now archive errors.Memory goes.commands_are goes.run (in_step_fair now archive (last_state w outcomes) goes.in_step) range goes.fills
     (at_last (λ s. EachStands now s.history) w outcomes (in_step_stands now archive (last_state w outcomes) goes.in_step))
 
 -- how a command ended that was not carried out, in the run with its outcome
@@ -182,8 +182,8 @@ pub filled_at : (w : World) (commands rest further : List Command) (command : Co
 filled_at w commands rest further command error outcomes old mid new a b goes is out beside range =
     let D : List Command → Type 0 = λ l. All HasDocument (map items.Command l) in
     let here = subst D is range in
-    let E : World → Type 0 = λ s. IsLoadable s.history in
-    let loads : IsLoadable out.outcome.next.history = step_loads (last_state w outcomes) (items.Command command) out.outcome.reply out.outcome.next (in_step_loads mid a (last_state w outcomes) goes.in_step) (All-head HasDocument (items.Command command) (map items.Command further) here) out.step in
+    let E : World → Type 0 = λ s. IsFair IsLoadable s in
+    let loads : IsFair IsLoadable out.outcome.next = step_loads (last_state w outcomes) (items.Command command) out.outcome.reply out.outcome.next (in_step_fair mid a (last_state w outcomes) goes.in_step) (All-head HasDocument (items.Command command) (map items.Command further) here) out.step in
     ended_early w commands (goes.done ++ command ∷ []) further (outcomes ++ out.outcome ∷ []) old new b error (done_next commands goes.done rest further command goes.commands_are is)
     (run_next w goes.done command outcomes out.outcome goes.run out.step) (subst E (sym (last_state_joins w outcomes (out.outcome ∷ []))) loads)
     (All-tail HasDocument (items.Command command) (map items.Command further) here) (fills_next w outcomes out.outcome old mid new goes.fills out.leads beside)

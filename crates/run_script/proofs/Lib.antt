@@ -1,4 +1,5 @@
 mod OutcomeLemmas
+mod StintLemmas
 mod PullLemmas
 mod SampleLemmas
 mod ServeLemmas

@@ -1,6 +1,7 @@
 -- What a run pulls, call by call of the reader, where the input was at its end, and with which statuses it may come there.
-use Rattle.std.proofs.Common.{◌≡◌, ◌⊎◌, ℕ, ◌<◌, ◌≤◌, ◌^◌, Bool, true, false, List, [], ◌∷◌, ◌++◌, length, Option, Some, None, Result, Ok, Err, IfErr, refl, inl, inr, ap, subst, sym, ◌∙◌, arith, append_assoc}
+use Rattle.std.proofs.Common.{◌≡◌, ◌⊎◌, ℕ, ◌<◌, ◌≤◌, ◌^◌, Bool, true, false, List, [], ◌∷◌, ◌++◌, length, Option, Some, None, Result, Ok, Err, IfErr, OnOk, refl, inl, inr, ap, subst, sym, ◌∙◌, arith, append_assoc}
 use Rattle.std.proofs.lemmas.List.{append-nil, length-append}
+use Rattle.machine_model.specs.Causes.{Rose}
 use Rattle.machine_model.specs.Pushes.{IsSameBeside}
 use Rattle.machine_model.specs.States.{SourceState, SinkState, DiskState, MachineState}
 use Rattle.base_commands.specs.declared.command.Item.{Item}
@@ -14,12 +15,12 @@ use Rattle.script_items.proofs.RunLemmas.{read_so_far, reads_start, reads_on, re
 use Rattle.script_items.proofs.Splitting.{broken_once, each_splits, end-is, more-open, not_broken, script_unbroken, script_whole}
 use Rattle.pages_sublists.specs.declared.why.Damage.{Damage}
 use Rattle.model_archive.specs.Standing.{last_state}
-use Rattle.model_archive.proofs.RunLemmas.{last_state_joins, runs_join}
+use Rattle.model_archive.proofs.RunLemmas.{last_state_joins, works_join}
 use Rattle.archive_hand.specs.States.{ArchiveState, AreInStepBy}
-use Rattle.archive_hand.specs.Stored.{Store, StoreStep}
+use Rattle.archive_hand.specs.Stored.{Store, StoreStep, StoreStint, is_at_work}
 use Rattle.run_script.specs.Causes.{IsLater, IsLeft, MayEnd}
 use Rattle.run_script.specs.Headline.{ArePulled, CarriesOutAll, Ends, EndsEarly, InputAt}
-use Rattle.run_script.specs.Outcomes.{Passes}
+use Rattle.run_script.specs.Outcomes.{PassesOn}
 use Rattle.run_script.specs.Serving.{Gives, HasPassed, HasSpoiled, Pulling, next_by}
 use Rattle.run_script.specs.Statuses.{status_of_stop}
 use Rattle.run_script.specs.declared.stop.Stop.{Stop}
@@ -79,6 +80,10 @@ not_early status (inl is) all = subst CarriesOutAll is all
 not_early status (inr (inl is)) all = subst CarriesOutAll is all
 not_early status (inr (inr (inl is))) all = subst CarriesOutAll is all
 not_early status (inr (inr (inr (damage, is)))) all = subst CarriesOutAll is all
+
+-- nor the one at the end of the input
+pub early_undone : (status : Status) → EndsEarly status → status ≡ Done → ⊥
+early_undone status early is = not_early status early (subst CarriesOutAll (sym is) tt)
 
 -- a run that is stopped ends early
 pub stops_early : (status : Status) (stop : Stop) → status ≡ status_of_stop stop → EndsEarly status
@@ -169,6 +174,11 @@ ends_by old now source held held_now status pulling gives =
     let I : Result Item Status → Type 0 = λ next. IfErr next (λ s. EndsHere s old source pulling.items) in
     subst I (sym gives.next_is) (ends_here old source held_now (pulling_still old now source held held_now status pulling gives) gives.answer gives.says.finds)
 
+-- behind the end of the input it is where it was, however the stints there end
+pub ends_closed : (status : Status) (old new : SourceState) → EndsEarly status ⊎ (status ≡ Done) → Ends Done old new → Ends status old new
+ends_closed status old new (inl early) e = record { pulled = e.pulled; pulled_are = e.pulled_are; ended = e.ended; ended_is = e.ended_is; rest = e.rest; input_at = input_early status e.ended e.pulled e.rest early }
+ends_closed status old new (inr is) e = subst (λ (st : Status). Ends st old new) (sym is) e
+
 -- so no other status ends it
 pub ends_else : (status other : Status) → CarriesOutAll status ⊎ (status ≡ Memory) → (CarriesOutAll other → ⊥) → (Memory ≡ other → ⊥) → status ≡ other → ⊥
 ends_else status other (inl all) early late is = early (subst CarriesOutAll is all)
@@ -207,6 +217,10 @@ later_joins old mid new one other = record { source = omega (arith, one.source, 
 pub later_alone : (old new : MachineState) → new.source ≡ old.source → new.sink ≡ old.sink → old.disk.faults ≤ new.disk.faults → IsLater old new
 later_alone old new source sink disk = record { source = omega (arith, ap (λ (s : SourceState). s.faults) source); sink = omega (arith, ap (λ (s : SinkState). s.faults) sink); disk = disk }
 
+-- calls that leave the source as it was
+pub later_still : (old new : MachineState) → new.source ≡ old.source → old.sink.faults ≤ new.sink.faults → old.disk.faults ≤ new.disk.faults → IsLater old new
+later_still old new source sink disk = record { source = omega (arith, ap (λ (s : SourceState). s.faults) source); sink = sink; disk = disk }
+
 -- what ended so since a moment ended so since any earlier one
 pub ends_later : (status : Status) (old mid new : MachineState) → IsLater old mid → MayEnd status mid new → MayEnd status old new
 ends_later status old mid new later ends = record {
@@ -218,11 +232,25 @@ ends_later status old mid new later ends = record {
   not_full = ends.not_full;
 }
 
+-- what stopped a run ended it
+pub stop_ends : (status : Status) (stop : Stop) (old new : MachineState) → status ≡ status_of_stop stop → (stop ≡ stops.Disk → Rose old.disk.faults new.disk.faults) → (stop ≡ stops.Sink → Rose old.sink.faults new.sink.faults) → MayEnd status old new
+stop_ends status stop old new is disk sink = subst (λ (st : Status). MayEnd st old new) (sym is) (go stop disk sink)
+  where
+    go : (s : Stop) → (s ≡ stops.Disk → Rose old.disk.faults new.disk.faults) → (s ≡ stops.Sink → Rose old.sink.faults new.sink.faults) → MayEnd (status_of_stop s) old new
+    go stops.Disk disk sink = record { source = λ is. absurd cc; sink = λ is. absurd cc; disk = λ is. disk refl; no_usage = λ is. cc; no_load = λ at is. cc; not_full = λ n is. cc }
+    go stops.Sink disk sink = record { source = λ is. absurd cc; sink = λ is. sink refl; disk = λ is. absurd cc; no_usage = λ is. cc; no_load = λ at is. cc; not_full = λ n is. cc }
+    go stops.Memory disk sink = record { source = λ is. absurd cc; sink = λ is. absurd cc; disk = λ is. absurd cc; no_usage = λ is. cc; no_load = λ at is. cc; not_full = λ n is. cc }
+    go (stops.Damaged damage) disk sink = record { source = λ is. absurd cc; sink = λ is. absurd cc; disk = λ is. absurd cc; no_usage = λ is. cc; no_load = λ at is. cc; not_full = λ n is. cc }
+
 pub left_joins : (tells : Type 0) (old mid new : DiskState) (first then now : ArchiveState) → IsLeft tells old mid first then → IsLeft tells mid new then now → IsLeft tells old new first now
 left_joins tells old mid new first then now one other = record {
   ready = other.ready;
   cached = λ told stands. other.cached told (one.cached told stands);
 }
+
+pub on_left : (tells : Type 0) (result : Result (Unit {0}) Stop) (old mid new : DiskState) (first then now : ArchiveState) → IsLeft tells old mid first then → OnOk result (IsLeft tells mid new then now) → OnOk result (IsLeft tells old new first now)
+on_left tells (Ok done) old mid new first then now one other = left_joins tells old mid new first then now one other
+on_left tells (Err stop) old mid new first then now one other = tt
 
 -- and over pushes
 pub left_beside : (tells : Type 0) (old mid new : DiskState) (archive archive_now : ArchiveState) → IsSameBeside mid new → IsLeft tells old mid archive archive_now → IsLeft tells old new archive archive_now
@@ -257,24 +285,24 @@ are_pulled old new held items q same =
     }
 
 -- what an item that was taken came to
-pub passes_one : (tells : Type 0) (s : Store) (item : Item) (d : DiskState) (archive : ArchiveState) (source source_now : SourceState) (held held_now : ReaderState) → Passes s item (Ok tt) d archive
+pub passes_one : (tells : Type 0) (s : Store) (item : Item) (d : DiskState) (archive : ArchiveState) (source source_now : SourceState) (held held_now : ReaderState) → PassesOn s item (Ok tt) d archive
     → (tells → (began : SourceState) → (p : Pulling began source held) → Gives held held_now p.since (Ok item) source source_now) → HasPassed tells s d archive source source_now held held_now
-passes_one tells s item d archive source source_now held held_now (reply, next, step, in_step) gives = record {
+passes_one tells s item d archive source source_now held held_now (outcomes, run, in_step) gives = record {
   items = item ∷ [];
-  outcomes = record { reply = reply; next = next } ∷ [];
-  run = (step, tt);
+  outcomes = outcomes;
+  run = run;
   in_step = in_step;
   pulled = λ told began p. pulled_one began source source_now held held_now item p (gives told began p);
 }
 
-pub spoils_one : (tells : Type 0) (s : Store) (item : Item) (status : Status) (stop : Stop) (d : DiskState) (archive : ArchiveState) (source source_now : SourceState) (held held_now : ReaderState) → status ≡ status_of_stop stop → Passes s item (Err stop) d archive
+pub spoils_one : (tells : Type 0) (s : Store) (item : Item) (status : Status) (stop : Stop) (d : DiskState) (archive : ArchiveState) (source source_now : SourceState) (held held_now : ReaderState) → status ≡ status_of_stop stop → PassesOn s item (Err stop) d archive
     → (tells → (began : SourceState) → (p : Pulling began source held) → Gives held held_now p.since (Ok item) source source_now) → (damage : Damage) → status ≡ Damaged damage → HasSpoiled tells s d source source_now held damage
 spoils_one tells s item status stop d archive source source_now held held_now is passes gives damage same =
-    let (spoils, pages) = subst (λ (x : Stop). Passes s item (Err x) d archive) (stopped_at stop damage (sym is ∙ same)) passes in
+    let (spoils, pages) = subst (λ (x : Stop). PassesOn s item (Err x) d archive) (stopped_at stop damage (sym is ∙ same)) passes in
     record {
       before = [];
       outcomes = [];
-      run = tt;
+      run = refl;
       item = item;
       spoiled = spoils;
       pages_are = pages;
@@ -286,7 +314,7 @@ pub passed_joins : (tells : Type 0) (s : Store) (d e : DiskState) (a b : Archive
 passed_joins tells s d e a b x y z h i j one more = record {
   items = one.items ++ more.items;
   outcomes = one.outcomes ++ more.outcomes;
-  run = runs_join StoreStep s one.items more.items one.outcomes more.outcomes one.run more.run;
+  run = works_join StoreStep StoreStint is_at_work s one.items more.items one.outcomes more.outcomes one.run more.run;
   in_step = rw (last_state_joins s one.outcomes more.outcomes) more.in_step;
   pulled = λ told began p.
       let first = one.pulled told began p in
@@ -298,7 +326,7 @@ pub spoiled_joins : (tells : Type 0) (s : Store) (d e : DiskState) (a : ArchiveS
 spoiled_joins tells s d e a x y z h i damage one more = record {
   before = one.items ++ more.before;
   outcomes = one.outcomes ++ more.outcomes;
-  run = runs_join StoreStep s one.items more.before one.outcomes more.outcomes one.run more.run;
+  run = works_join StoreStep StoreStint is_at_work s one.items more.before one.outcomes more.outcomes one.run more.run;
   item = more.item;
   spoiled = rw (last_state_joins s one.outcomes more.outcomes) more.spoiled;
   pages_are = rw (last_state_joins s one.outcomes more.outcomes) more.pages_are;
@@ -319,4 +347,4 @@ spoiled_start tells s d began source source_now held damage same is one told =
 
 -- before any
 pub none_passed : (tells : Type 0) (s : Store) (d : DiskState) (a : ArchiveState) (x : SourceState) (h : ReaderState) → AreInStepBy d a s → HasPassed tells s d a x x h h
-none_passed tells s d a x h in_step = record { items = []; outcomes = []; run = tt; in_step = in_step; pulled = λ told began p. (p, sym (append-nil p.items)) }
+none_passed tells s d a x h in_step = record { items = []; outcomes = []; run = refl; in_step = in_step; pulled = λ told began p. (p, sym (append-nil p.items)) }

@@ -82,7 +82,7 @@ unshown seed count status output output_now old new outcomes run same undone on 
 pub not_loaded : (seed count : ℕ) (status : Status) (output output_now : SinkState) (old new : DiskState) → IsUndone status → old.now.beside ≡ output.shown → output_now ≡ output → GoesOn old new → (EachStands old [] → KeepsHistory [] old new)
     → Sampled seed count status output output_now old new
 not_loaded seed count status output output_now old new undone beside same going keeps =
-    let on = run_on (world_of []) (map items.Command (sample_of seed count)) tt (documents seed count) in
+    let on = run_on (world_of []) (map items.Command (sample_of seed count)) (record { history = tt; job = tt }) (documents seed count) in
     unshown seed count status output output_now old new on.0 on.1 same undone going (λ each. load_reaches on.0 output.shown old new beside (keeps each))
 
 -- the commands were carried out up to an error, or there was no memory for the lines

@@ -1,6 +1,6 @@
 -- What is promised of a run over a script: one run of a machine over the items of the bytes pulled, what is shown of it and when, for what each image
 -- left at any moment stands, and where the input was.
-use Rattle.std.specs.Prelude.{◌≡◌, ◌⊎◌, ℕ, ◌<◌, ◌≤◌, ◌^◌, Bool, true, false, List, [], ◌∷◌, ◌++◌, length, All}
+use Rattle.std.specs.Prelude.{◌≡◌, ◌⊎◌, ℕ, ◌<◌, ◌≤◌, ◌^◌, Bool, true, false, List, [], ◌∷◌, ◌++◌, length, All, None}
 use Rattle.machine_model.specs.Areas.{Bytes}
 use Rattle.machine_model.specs.Causes.{Rose}
 use Rattle.machine_model.specs.Images.{MayLeave}
@@ -17,12 +17,12 @@ use Rattle.model_archive.specs.Histories.{History}
 use Rattle.model_archive.specs.Legal.{IsLoadable}
 use Rattle.model_archive.specs.Plans.{live_extents}
 use Rattle.model_archive.specs.Replies.{reply_text}
-use Rattle.model_archive.specs.Runs.{Outcome, IsRun, IsAcknowledged, state_after, shown_by, Reopens}
-use Rattle.model_archive.specs.Standing.{last_state}
+use Rattle.model_archive.specs.Runs.{Outcome, AreStints, IsRunWith, IsAcknowledged, state_after, shown_by, Reopens}
+use Rattle.model_archive.specs.Standing.{LacksStint, last_state}
 use Rattle.model_archive.specs.Stands.{IsNotArchive, StandsIn, bodies_of}
-use Rattle.model_archive.specs.Steps.{Reply, Step}
-use Rattle.model_archive.specs.Worlds.{world_of}
-use Rattle.archive_hand.specs.Stored.{Store, Spoils, StandsBy, StoreStep}
+use Rattle.model_archive.specs.Steps.{Reply, Step, Works}
+use Rattle.model_archive.specs.Worlds.{at_work, world_of}
+use Rattle.archive_hand.specs.Stored.{Store, Spoils, StandsBy, StoreStep, StoreStint, is_at_work}
 use Rattle.pages_sublists.specs.declared.why.Damage.{Damage}
 use Rattle.run_script.specs.declared.status.Status.{Status}
 use Rattle.run_script.specs.declared.status.Status.TheVariants.{Done, NotArchive, Disk, Source, Sink, Script, Damaged, Budget, Memory}
@@ -60,9 +60,9 @@ pub record Ends (status : Status) (old new : SourceState) : Type 0 where
   pub input_at : InputAt status ended pulled rest
 
 -- A pull comes after the replies: no whole item waited for its own. What had been pulled by then is some of the items and a rest that begins with no
--- whole one, and the replies to all of these had been shown.
-pub record ComesAfterReplies {S : Type 0} (input : SourceState) (output : SinkState) (items : List Item) (outcomes : List (Outcome Reply S))
-    (pull : Pull) : Type 0 where
+-- whole one; the replies to all of these had been shown, and what was told of the stints behind them.
+pub record ComesAfterReplies {S : Type 0} (step : S → Item → Reply → S → Type 0) (stint : S → Reply → S → Type 0) (working : S → Bool)
+    (state : S) (input : SourceState) (output : SinkState) (items : List Item) (outcomes : List (Outcome Reply S)) (pull : Pull) : Type 0 where
   pub pulled : List ℕ
   pub pulled_are : input.left ≡ pulled ++ pull.left
   pub before : List Item
@@ -73,12 +73,13 @@ pub record ComesAfterReplies {S : Type 0} (input : SourceState) (output : SinkSt
   pub answered : List (Outcome Reply S)
   pub to_come : List (Outcome Reply S)
   pub outcomes_are : outcomes ≡ answered ++ to_come
-  pub each : length answered ≡ length before
+  pub run : IsRunWith step stint working state before answered
   pub shown : pull.shown ≡ output.shown ++ shown_by reply_text answered
 
--- One run of a machine from this state over the items of the bytes pulled, as far as they were reached, and what was shown of it.
-pub record Ran {S : Type 0} (step : S → Item → Reply → S → Type 0) (state : S) (status : Status) (input input_now : SourceState)
-    (output output_now : SinkState) (pulls : List Pull) : Type 0 where
+-- One run of a machine from this state over the items of the bytes pulled, as far as they were reached, with a stint behind each that came while work was
+-- under way, and what was shown of it. At the end of the input the work is brought to its end.
+pub record Ran {S : Type 0} (step : S → Item → Reply → S → Type 0) (stint : S → Reply → S → Type 0) (working : S → Bool) (state : S)
+    (status : Status) (input input_now : SourceState) (output output_now : SinkState) (pulls : List Pull) : Type 0 where
   -- the bytes pulled, and whether the end of the input was told
   pub pulled : List ℕ
   pub pulled_are : input.left ≡ pulled ++ input_now.left
@@ -90,9 +91,18 @@ pub record Ran {S : Type 0} (step : S → Item → Reply → S → Type 0) (stat
   pub rest : List ℕ
   pub split : Splits ended pulled (reached ++ behind) rest
   pub input_at : InputAt status ended pulled rest
-  -- one run of the machine over the items that were reached
+  -- one run of the machine over the items that were reached (the last stint lacks only where the disk or the sink failed), and then stints behind
+  -- the end of the input
   pub outcomes : List (Outcome Reply S)
-  pub run : IsRun step state reached outcomes
+  pub by_items : List (Outcome Reply S)
+  pub closing : List (Outcome Reply S)
+  pub outcomes_are : outcomes ≡ by_items ++ closing
+  pub run : IsRunWith step stint working state reached by_items
+      ⊎ (LacksStint step stint working state reached by_items × (closing ≡ []) × ((status ≡ Disk) ⊎ (status ≡ Sink)))
+  pub closes : AreStints stint (last_state state by_items) closing
+  pub at_end : (closing ≡ []) ⊎ ((ended ≡ true) × (rest ≡ []) × (behind ≡ []))
+  -- where the input was gone over, no work is left
+  pub closed : status ≡ Done → working (last_state state outcomes) ≡ false
   -- what was shown is a front of the joined texts of its replies
   pub shown : List ℕ
   pub shown_is : output_now.shown ≡ output.shown ++ shown
@@ -100,20 +110,21 @@ pub record Ran {S : Type 0} (step : S → Item → Reply → S → Type 0) (stat
   -- where all items are carried out, all were reached, and all their replies are shown
   pub all : CarriesOutAll status → behind ≡ []
   pub whole : CarriesOutAll status → shown ≡ shown_by reply_text outcomes
-  -- a fault of the disk or the sink leaves a reply unshown, or an item that wasn't reached, or came before anything was pulled
+  -- a fault of the disk or the sink leaves a reply unshown, an item that wasn't reached, or work that isn't at its end, or it came before anything was
+  -- pulled
   pub unfinished : (status ≡ Disk) ⊎ (status ≡ Sink) → (pulled ≡ [])
-      ⊎ ((behind ≡ [] → ⊥) ⊎ (length shown < length (shown_by reply_text outcomes)))
+      ⊎ ((behind ≡ [] → ⊥) ⊎ ((length shown < length (shown_by reply_text outcomes)) ⊎ (working (last_state state outcomes) ≡ true)))
   -- each pull was made when the replies to all items that were whole by then had been shown
-  pub after_replies : All (ComesAfterReplies input output (reached ++ behind) outcomes) pulls
+  pub after_replies : All (ComesAfterReplies step stint working state input output (reached ++ behind) outcomes) pulls
 
 -- each image that a stop may leave now stands for this state
 abbrev pub EachOf : {S : Type 0} → (S → Bytes → Type 0) → DiskState → S → Type 0
 EachOf stands d state = (image : Bytes) → MayLeave d.now image → stands state image
 
 -- A run from this state: its status, the machine before and after, and the pulls among its calls.
-pub record Headline {S : Type 0} (step : S → Item → Reply → S → Type 0) (stands : S → Bytes → Type 0) (state : S) (status : Status)
-    (old new : MachineState) (pulls : List Pull) : Type 0 where
-  pub ran : Ran step state status old.source new.source old.sink new.sink pulls
+pub record Headline {S : Type 0} (step : S → Item → Reply → S → Type 0) (stint : S → Reply → S → Type 0) (working : S → Bool)
+    (stands : S → Bytes → Type 0) (state : S) (status : Status) (old new : MachineState) (pulls : List Pull) : Type 0 where
+  pub ran : Ran step stint working state status old.source new.source old.sink new.sink pulls
   -- each image left since, with the bytes shown then, stands for the state after as many outcomes as these acknowledge, or one more
   pub images : EachOf stands old.disk state → LeavesOnly old.disk new.disk (Reopens reply_text stands state ran.outcomes old.sink.shown)
   -- where all items are carried out, each image stands for the last state
@@ -127,15 +138,16 @@ pub record Headline {S : Type 0} (step : S → Item → Reply → S → Type 0) 
 
 -- On a disk that stands for a history: one run of the abstract archive over all items of the bytes pulled; and no sublist is damaged.
 pub record StandingRun (history : History) (status : Status) (old new : MachineState) (pulls : List Pull) : Type 0 where
-  pub headline : Headline Step StandsIn (world_of history) status old new pulls
+  pub headline : Headline Step Works at_work StandsIn (world_of history) status old new pulls
   pub over_all : headline.ran.behind ≡ []
+  pub with_stints : IsRunWith Step Works at_work (world_of history) headline.ran.reached headline.ran.by_items
   pub undamaged : (damage : Damage) → status ≡ Damaged damage → ⊥
 
 -- On any disk that a load takes: one run by what reads give. Where it ends at a damaged sublist, all items in front of one were carried out and their
 -- replies shown, and this is the first damage of what is read for that one. At the end, as many bytes of Pages were read as its last
 -- state says: each query asks for just the pages of the lists that are chosen for it.
 pub record ReadingRun (store : Store) (status : Status) (old new : MachineState) (pulls : List Pull) : Type 0 where
-  pub headline : Headline StoreStep StandsBy store status old new pulls
+  pub headline : Headline StoreStep StoreStint is_at_work StandsBy store status old new pulls
   pub damaged : (damage : Damage) → status ≡ Damaged damage → (item : Item) × (rest : List Item) × (headline.ran.behind ≡ item ∷ rest)
       × Spoils (last_state store headline.ran.outcomes) item damage
       × (headline.ran.shown ≡ shown_by reply_text headline.ran.outcomes)
@@ -156,7 +168,7 @@ pub record ArePulled (old new : SourceState) (items : List Item) : Type 0 where
 pub record EndsSpoiled (tells : Type 0) (store : Store) (old new : SourceState) (disk : DiskState) (damage : Damage) : Type 0 where
   pub before : List Item
   pub outcomes : List (Outcome Reply Store)
-  pub run : IsRun StoreStep store before outcomes
+  pub run : IsRunWith StoreStep StoreStint is_at_work store before outcomes
   pub item : Item
   pub spoiled : Spoils (last_state store outcomes) item damage
   pub pages_are : disk.holds.pages ≡ (last_state store outcomes).pages
@@ -169,9 +181,9 @@ pub record LoadsAs (history : History) (image : Bytes) : Type 0 where
   pub loadable : IsLoadable history
   pub live : AreLive (live_extents history) (length image.pages)
 
--- what is stored then on a disk, of which no page is kept yet, and of which nothing was asked
+-- what is stored then on a disk, of which no page is kept yet, of which nothing was asked, and with no plan under way
 abbrev pub store_of : History → DiskState → Store
-store_of history d = record { history = history; asked = []; pages = d.holds.pages; kept = []; read = d.bytes_read.pages }
+store_of history d = record { history = history; asked = []; pages = d.holds.pages; kept = []; read = d.bytes_read.pages; job = None }
 
 -- Unless the bytes were refused, the disk failed or memory ran out, a load took the image for a history's.
 abbrev pub IsLoadedFrom : Bytes → Status → Type 0

@@ -1,23 +1,25 @@
 //! Answering one item of the input.
-ghost use Rattle.std.specs.Prelude.{◌≡◌, ◌⊎◌, Ok, OnOk, IsOk, IsErrOf};
+ghost use Rattle.std.specs.Prelude.{◌≡◌, ◌⊎◌, ◌<◌, Ok, OnOk, IsOk, IsErr, IsErrOf, IsSome};
 ghost use Rattle.machine_model.specs.Causes.{Rose};
 ghost use Rattle.model_archive.specs.Replies.{reply_text};
-ghost use Rattle.model_archive.specs.Steps.{Found, FoundBest, Neared, Refused, Reply, Spanned};
+ghost use Rattle.model_archive.specs.Steps.{Found, FoundBest, Neared, Refused, Reply, Spanned, left_of};
+ghost use Rattle.archive_hand.specs.Jobs.{plain_job};
 ghost use Rattle.archive_hand.specs.States.{AreInStepBy};
-ghost use Rattle.archive_hand.specs.Stored.{Store, TellsNoEntry};
+ghost use Rattle.archive_hand.specs.Stored.{Spoils, Store, StoreStep, StoreStint, TellsNoEntry};
 ghost use Rattle.archive_hand.specs.Adding.{IsDone};
-ghost use Rattle.archive_changes.specs.Endings.{changed, changed_all, plainly, planned, unchanged};
+ghost use Rattle.archive_hand.specs.Takes.{said};
+ghost use Rattle.archive_changes.specs.Endings.{begun, changed, changed_all, plainly, planned, unchanged};
 ghost use Rattle.archive_questions.specs.Endings.{approximated, proposed, shared, version_shown, unanswered, verified};
 ghost use Rattle.base_commands.specs.declared.command.Item.TheVariants as items;
 ghost use Rattle.base_commands.specs.declared.command.Command.TheVariants as plain;
 ghost use Rattle.run_script.specs.Causes.{IsLeft};
-ghost use Rattle.run_script.specs.Outcomes.{CanGoOn, IsAnswered, Writes, WritesAnswer};
+ghost use Rattle.run_script.specs.Outcomes.{CanGoOn, IsAnswered, NeverSpoiled, Writes, WritesAnswer, WritesStint};
 
 use crate::stop::Halt;
-use archive_changes::{BatchError, batch, delete, mark_format, plan};
+use archive_changes::{BatchError, batch, begin, delete, mark_format, plan};
 use archive_check::VerifyError;
 use archive_entries::{Declined, ReadError};
-use archive_hand::{Archive, ChangeError};
+use archive_hand::{Archive, Begun, ChangeError, Stint};
 use archive_questions::{
     Approximation, AskError, BestAnswer, RoughAnswer, ShareError, approx, best, between,
     certificate, find, propose, rough, share, show, top, verify,
@@ -25,7 +27,7 @@ use archive_questions::{
 use archive_replies::ReplyPage;
 use base_commands::{Command, Item, MOST_TEXT_BYTES, Text};
 use base_types::{DocId, Time};
-use machine_model::Disk;
+use machine_model::{Disk, Failed};
 use model_archive::{Refusal, Sharing, Summary, Verdict};
 use pages_sublists::Damage;
 use plans_kinds::Proposal;
@@ -46,7 +48,7 @@ pub(crate) fn answer<D: Disk>(
     ensures left { OnOk result (IsLeft D.disk_tells (D.disk disk.old) (D.disk disk.new) archive.old archive.new) }
     // What comes of it by what reads give, whatever lies in Pages.
     ensures outcome { D.disk_tells → (s : Store) → AreInStepBy (D.disk disk.old) archive.old s
-        → IsAnswered s item result (D.disk disk.old) (D.disk disk.new) archive.new page.new.bytes }
+        → IsAnswered s (StoreStep s item) (Spoils s item) result (D.disk disk.old) (D.disk disk.new) archive.new page.new.bytes }
 {
     let Item::Command(command) = item else {
         return refuse(page, Refusal::Line);
@@ -117,11 +119,65 @@ pub(crate) fn answer<D: Disk>(
             let result = verify(alloc, disk, archive);
             write_verified(page, result)
         }
-        Command::Begin { .. } => refuse(page, Refusal::Line),
+        Command::Begin { word, fraction } => {
+            let result = begin(alloc, archive, &word, fraction);
+            write_begun(page, result)
+        }
         Command::Share { fraction, words } => {
             let result = share(alloc, archive, &words, fraction);
             write_shared(page, result)
         }
+    }
+}
+
+/// Does a stint of the work on the plan that is being written, and writes what it says on the page. Takes no
+/// memory.
+pub(crate) fn work<D: Disk>(
+    disk: &mut D,
+    archive: &mut Archive,
+    page: &mut ReplyPage,
+) -> Result<(), Halt>
+    requires ready { CanGoOn archive.old (D.disk disk.old).reach }
+    requires working { IsSome archive.old.job }
+    ensures only { D.Disk.only disk.old disk.new }
+    ensures disk_fault { IsErrOf result Halt.Disk → Rose (D.disk disk.old).faults (D.disk disk.new).faults }
+    ensures fed { IsErrOf result Halt.Memory → ⊥ }
+    ensures undamaged { (d : Damage) → IsErrOf result (Halt.Damaged d) → ⊥ }
+    ensures left { OnOk result (IsLeft D.disk_tells (D.disk disk.old) (D.disk disk.new) archive.old archive.new) }
+    ensures less { OnOk result (left_of (plain_job archive.new.job) < left_of (plain_job archive.old.job)) }
+    // What comes of it by what reads give, whatever lies in Pages.
+    ensures outcome { D.disk_tells → (s : Store) → AreInStepBy (D.disk disk.old) archive.old s
+        → IsAnswered s (StoreStint s) NeverSpoiled result (D.disk disk.old) (D.disk disk.new) archive.new page.new.bytes }
+{
+    let stint = archive.advance(disk);
+    write_stint(page, stint)
+}
+
+/// Writes what a stint says on the page, or halts the run.
+fn write_stint(page: &mut ReplyPage, stint: Result<Stint, Failed>) -> Result<(), Halt>
+    ensures writes { WritesStint stint result page.new.bytes }
+    ensures fault { IsErrOf result Halt.Disk → IsErr stint }
+    ensures fed { IsErrOf result Halt.Memory → ⊥ }
+    ensures undamaged { (d : Damage) → IsErrOf result (Halt.Damaged d) → ⊥ }
+    ensures made { OnOk result (IsOk stint) }
+{
+    match stint {
+        Ok(stint) => {
+            write_said(page, stint);
+            Ok(())
+        }
+        Err(Failed) => Err(Halt::Disk),
+    }
+}
+
+/// Writes what a stint says on the page.
+fn write_said(page: &mut ReplyPage, stint: Stint)
+    ensures { page.new.bytes ≡ reply_text (said stint) }
+{
+    match stint {
+        Stint::Wrote { .. } => page.silent(),
+        Stint::Done(summary) => page.finished(summary),
+        Stint::Dropped(why) => page.refused(why),
     }
 }
 
@@ -141,7 +197,8 @@ fn arrive<D: Disk>(
     ensures left { OnOk result (IsLeft D.disk_tells (D.disk disk.old) (D.disk disk.new) archive.old archive.new) }
     ensures undamaged { (d : Damage) → IsErrOf result (Halt.Damaged d) → ⊥ }
     ensures outcome { D.disk_tells → (s : Store) → AreInStepBy (D.disk disk.old) archive.old s →
-        IsAnswered s (items.Command (plain.Arrive doc at text)) result (D.disk disk.old) (D.disk disk.new) archive.new page.new.bytes }
+        IsAnswered s (StoreStep s (items.Command (plain.Arrive doc at text))) (Spoils s (items.Command (plain.Arrive doc at text))) result
+        (D.disk disk.old) (D.disk disk.new) archive.new page.new.bytes }
 {
     match text {
         Text::Bytes(content) => {
@@ -309,6 +366,22 @@ fn write_proposed(page: &mut ReplyPage, plan: Result<Proposal, Declined>) -> Res
     match plan {
         Ok(plan) => {
             page.proposed(&plan.segments, &plan.nodes, plan.space)?;
+            Ok(())
+        }
+        Err(Declined::Refused(why)) => refuse(page, why),
+        Err(Declined::Memory) => Err(Halt::Memory),
+    }
+}
+
+/// Writes what is told of a plan that was begun on the page, or halts the run.
+fn write_begun(page: &mut ReplyPage, plan: Result<Begun, Declined>) -> Result<(), Halt>
+    ensures writes { Writes (begun plan) result page.new.bytes }
+    ensures fault { IsErrOf result Halt.Disk → ⊥ }
+    ensures undamaged { (d : Damage) → IsErrOf result (Halt.Damaged d) → ⊥ }
+{
+    match plan {
+        Ok(begun) => {
+            page.begun(begun.segments, begun.pages);
             Ok(())
         }
         Err(Declined::Refused(why)) => refuse(page, why),

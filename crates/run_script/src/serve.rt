@@ -1,15 +1,15 @@
 //! Going over the items of the input.
-ghost use Rattle.std.specs.Prelude.{◌≡◌, ◌<◌, ◌≤◌, ◌^◌, ◌++◌, [], List, OnOk, IfErr, IsErrOf, MatchResult, ℕ};
+ghost use Rattle.std.specs.Prelude.{◌≡◌, ◌⊎◌, ◌<◌, ◌≤◌, ◌^◌, ◌++◌, [], List, OnOk, IfErr, IsErrOf, MatchResult, ℕ};
 ghost use Rattle.machine_model.specs.Pulls.{Pull};
 ghost use Rattle.machine_model.specs.States.{SourceState, MachineState, state_by};
 ghost use Rattle.archive_hand.specs.States.{AreInStepBy};
 ghost use Rattle.archive_hand.specs.Stored.{Store};
-ghost use Rattle.run_script.specs.Headline.{Ends};
+ghost use Rattle.run_script.specs.Headline.{Ends, EndsEarly};
 ghost use Rattle.run_script.specs.Causes.{IsLater, IsLeft, MayEnd};
-ghost use Rattle.run_script.specs.Serving.{AreAwaited, Gives, HasPassed, HasSpoiled, Pulling, Serving, Serves, pulls_beside};
+ghost use Rattle.run_script.specs.Serving.{AreAwaited, Closing, Gives, HasGoneOver, HasPassed, HasSpoiled, Pulling, Serving, Serves, pulls_beside};
 ghost use Rattle.run_script.specs.Outcomes.{CanGoOn};
 
-use crate::carry_out::carry_out;
+use crate::carry_out::{carry_on, do_stint};
 use crate::status::Status;
 use archive_hand::Archive;
 use archive_replies::ReplyPage;
@@ -50,7 +50,8 @@ fn next_item<M: Machine>(
     Ok(item)
 }
 
-/// Carries out the next item of the input and shows its reply, or says how the run ends.
+/// Carries out the next item of the input and shows its reply, with the stint of work behind it, or says how
+/// the run ends: at the end of the input there may be work left.
 pub(crate) fn step<M: Machine>(
     alloc: Global,
     machine: &mut M,
@@ -72,7 +73,8 @@ pub(crate) fn step<M: Machine>(
         Serving s began (state_by M.source M.sink M.disk machine.old) archive.old reader.old before →
         (pulls : List Pull) × M.asked machine.old pulls machine.new × MatchResult result
         (λ _. Serving s began (state_by M.source M.sink M.disk machine.new) archive.new reader.new (before ++ pulls))
-        (λ status. Serves s status began (state_by M.source M.sink M.disk machine.new) (before ++ pulls)) }
+        (λ status. HasGoneOver s status began (state_by M.source M.sink M.disk machine.new) archive.new (before ++ pulls)) }
+    ensures ready { IfErr result (λ status. status ≡ Status.Done → CanGoOn archive.new (M.disk machine.new).reach) }
     // By the disk alone: an item was carried out, or it came to a damage.
     ensures passes { M.disk_tells → (s : Store) → AreInStepBy (M.disk machine.old) archive.old s → MatchResult result
         (λ _. HasPassed M.source_tells s (M.disk machine.new) archive.new (M.source machine.old)
@@ -84,13 +86,35 @@ pub(crate) fn step<M: Machine>(
         Ok(item) => item,
         Err(status) => return Err(status),
     };
-    match carry_out(alloc, machine, archive, page, item) {
+    match carry_on(alloc, machine, archive, page, item) {
         Ok(()) => Ok(()),
         Err(stop) => Err(Status::from(stop)),
     }
 }
 
-/// Goes over the items of the input, up to the event that ends the run.
+/// Behind the last item, does stints until no plan is being written, or up to the event that ends the run.
+fn close<M: Machine>(machine: &mut M, archive: &mut Archive, page: &mut ReplyPage) -> Status
+    requires ready { CanGoOn archive.old (M.disk machine.old).reach }
+    ensures source { M.source machine.new ≡ M.source machine.old }
+    ensures asked { M.asked machine.old [] machine.new }
+    ensures later { IsLater (state_by M.source M.sink M.disk machine.old) (state_by M.source M.sink M.disk machine.new) }
+    ensures cause { MayEnd result (state_by M.source M.sink M.disk machine.old) (state_by M.source M.sink M.disk machine.new) }
+    ensures ends { EndsEarly result ⊎ (result ≡ Status.Done) }
+    ensures undamaged { (d : Damage) → result ≡ Status.Damaged d → ⊥ }
+    ensures closed { M.sink_tells → M.disk_tells → (s : Store) (began : MachineState) (pulls : List Pull) →
+        Closing s began (state_by M.source M.sink M.disk machine.old) archive.old pulls
+        → Serves s result began (state_by M.source M.sink M.disk machine.new) pulls }
+{
+    'stints: while archive.is_at_work() {
+        match do_stint(machine, archive, page) {
+            Ok(()) => {}
+            Err(stop) => return Status::from(stop),
+        }
+    }
+    Status::Done
+}
+
+/// Goes over the items of the input, and then brings the work to its end, up to the event that ends the run.
 pub(crate) fn serve<M: Machine>(
     alloc: Global,
     machine: &mut M,
@@ -118,7 +142,10 @@ pub(crate) fn serve<M: Machine>(
     'items: loop {
         match step(alloc, machine, reader, archive, page) {
             Ok(()) => {}
-            Err(status) => return status,
+            Err(status) => match status {
+                Status::Done => return close(machine, archive, page),
+                _ => return status,
+            },
         }
     }
 }

@@ -20,6 +20,10 @@ from .script import Item, count_of, document_of, factor_of, items, query_behind,
 from .words import Query, asks_for_any, keys, one_key
 
 
+#: How many pages of a plan that was begun are written behind a command.
+STINT_PAGES = 8
+
+
 @dataclass(frozen=True)
 class Version:
     """From a time on a document has a text with these words, or none."""
@@ -46,6 +50,16 @@ class Outcome:
     status: int
 
 
+@dataclass
+class Job:
+    """A plan that is written while other commands go on. What the program chose isn't known where no entry of it came to be."""
+
+    key: str
+    plan: Plan | None
+    told: str  #: what is told of it at its end, behind the number of entries
+    left: int  #: how many pages are left
+
+
 class Archive:
     """The history of an archive, by its entries."""
 
@@ -56,6 +70,7 @@ class Archive:
         self.words: set[str] = set()
         self.last, self.is_marked = 0, False
         self.asked: list[tuple[str, int]] = []  # what this run was asked
+        self.job: Job | None = None
         self._versions, self._length = 0, len(spell_journal([]))
 
     @classmethod
@@ -120,16 +135,21 @@ class Archive:
     # -- commands
 
     def run(self, script: bytes, choice: Choice) -> Outcome:
-        """Carries out a script, up to a reply that the program didn't show, and tells what it is to show. (Or a sample, which shows
-        nothing of its replies.)"""
+        """Carries out a script, up to a reply that the program didn't show, and tells what it is to show. A script that isn't broken
+        brings a plan that was begun to its end. (Or a sample, which shows nothing of its replies.)"""
         if words := words_of(script):
             return self._generate(int(words[1]), int(words[3]), choice)
-        shown, self.asked = b"", []
+        shown, self.asked, self.job = b"", [], None
         try:
             for item in items(script):
+                was_at_work = self.job is not None
                 shown += self.shown_of(item, Choice(choice.entries, choice.shown[len(shown) :]))
                 if not choice.shown.startswith(shown):
                     break
+                shown += self._stint() if was_at_work else b""
+            else:
+                while self.job:
+                    shown += self._stint()
         except Broken as place:
             return Outcome(shown, f"tt_archive: script fault at byte {place}\n", 7)
         return Outcome(shown, "", 0)
@@ -169,6 +189,8 @@ class Archive:
                 return self._plan(word.decode(), UNIFORM, factor_of(factor), 0, choice)
             case [b"plan", word, b"space", factor, b"since", since]:
                 return self._plan(word.decode(), SINCE, factor_of(factor), time_of([since]), choice)
+            case [b"begin", word, b"guarantee", factor]:
+                return self._begin(word.decode(), factor_of(factor), choice)
             case [b"propose", word, b"guarantee", factor]:
                 return self._propose(word.decode(), factor_of(factor), choice)
             case [b"certificate", word]:
@@ -419,28 +441,68 @@ class Archive:
         key, line = self._sealed(word)
         if kind == GUARANTEE:
             test_width(line)
+        if self.job and self.job.key == key:
+            raise Refused("12 Busy")
         if len(choice.entries) <= len(self.entries):
             raise Differs(f"entry {len(self.entries) + 1} is missing, which is to be a plan of `{word}`")
         chosen = read_entry(choice.entries[len(self.entries)])
         if not isinstance(chosen, Plan) or chosen.horizon != self.last:
             raise Differs(f"entry {len(self.entries) + 1} is no plan of `{word}` up to {self.last}")
+        plan = self._chosen(chosen, line, kind, factor, since)
+        self._append(plan.entry())
+        return [f"plan {len(self.entries)} {told_of(line, plan)}"]
+
+    def _chosen(self, chosen: Plan, line: Line, kind: int, factor: tuple[int, int], since: int) -> Plan:
+        """The plan that was chosen, tested, as it is to be stored."""
         segments = chosen.segments()
         test_segments(line, kind, factor, since, segments)
-        places = self._placed(key, segments, chosen)
-        self._append(Plan(chosen.layout, kind, since, factor, self.last, key, places).entry())
-        space = sum(line.size(*it) for it in segments)
-        cost = f" cost {sum(line.cost(*it, since) for it in segments)}" if kind != GUARANTEE else ""
-        plan = f"plan {len(self.entries)} segments {len(segments)} space {space} full {line.full} horizon {self.last}"
-        return [plan + cost]
+        return Plan(chosen.layout, kind, since, factor, self.last, chosen.key, self._placed(chosen.key, segments, chosen))
+
+    def _begin(self, word: str, factor: tuple[int, int], choice: Choice) -> list[str]:
+        key, line = self._sealed(word)
+        test_width(line)
+        if self.job:
+            raise Refused("12 Busy" if self.job.key == key else "15 OneJob")
+        to_come = [read_entry(it) for it in choice.entries[len(self.entries) :]]
+        chosen = next((it for it in to_come if isinstance(it, Plan) and it.key == key), None)
+        if chosen is None:
+            shown = re.match(rb"begun (\d+) (\d+)\n", choice.shown)
+            if shown is None:
+                raise Differs(f"no plan of `{word}` is begun")
+            self.job = Job(key, None, "", int(shown[2]))
+            return [shown[0].decode().removesuffix("\n")]
+        if chosen.horizon != self.last:
+            raise Differs(f"the plan of `{word}` isn't one up to {self.last}")
+        plan = self._chosen(chosen, line, GUARANTEE, factor, 0)
+        pages = sum(len(it.pages()) for it in plan.places)
+        self.job = Job(key, plan, told_of(line, plan), pages)
+        return [f"begun {len(plan.places)} {pages}"]
+
+    def _stint(self) -> bytes:
+        """Writes the next pages of the plan that was begun; behind the last ones it is stored."""
+        job = self.job
+        if job.left > STINT_PAGES:
+            job.left -= STINT_PAGES
+            return b""
+        if job.plan is None:
+            raise Differs(f"the entry of the plan of `{job.key}` is missing, which was begun")
+        self.job = None
+        try:
+            self._append(job.plan.entry())
+        except Refused as refusal:
+            return f"no {refusal}\n".encode()
+        return f"done {len(self.entries)} {job.told}\n".encode()
 
     def _placed(self, key: str, segments: list[tuple[int, int]], chosen: Plan) -> tuple[Place, ...]:
         """Where the sublists of a new plan lie: each in the lowest run of free pages. (What stands as the first page of a sublist
-        without bytes has no meaning, and is taken as it was chosen.)"""
-        taken = {page for plan in self.plans.values() for place in plan.places for page in place.pages()}
+        without bytes has no meaning, and is taken as it was chosen. So is each, beside a plan of which nothing is known.)"""
+        under_way = [self.job.plan] if self.job and self.job.plan else []
+        taken = {page for plan in [*self.plans.values(), *under_way] for place in plan.places for page in place.pages()}
+        is_known = not self.job or self.job.plan
         postings, places = self.postings(key, 0, chosen.horizon), []
         for (start, end), was in zip(segments, chosen.places):
             content = sublist(postings, start, end, chosen.layout)
-            place = Place(start, 0 if content else was.page, len(content), sha256(content).digest())
+            place = Place(start, 0 if content and is_known else was.page, len(content), sha256(content).digest())
             while not taken.isdisjoint(place.pages()):
                 place = Place(start, place.page + 1, place.size, place.digest)
             taken.update(place.pages())
@@ -453,6 +515,14 @@ class Archive:
             postings = self.postings(key, 0, plan.horizon)
             for (start, end), place in zip(plan.segments(), plan.places):
                 yield place.page * PAGE, sublist(postings, start, end, plan.layout)
+
+
+def told_of(line: Line, plan: Plan) -> str:
+    """What is told of a plan behind the number of entries."""
+    segments = plan.segments()
+    space = sum(line.size(*it) for it in segments)
+    cost = f" cost {sum(line.cost(*it, plan.since) for it in segments)}" if plan.kind != GUARANTEE else ""
+    return f"segments {len(segments)} space {space} full {line.full} horizon {plan.horizon}{cost}"
 
 
 def change_of(item: Item) -> Change:

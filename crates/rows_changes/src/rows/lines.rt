@@ -8,10 +8,10 @@ const LINES: [Row<'static>; 9] = [
         script: b"arrive 7 10 5\nred a\nhello\nArrive 7 10 5\ndelete 7\ndelete 7 20 0\ndelete\t7 20\nfind 10\nfind 10 \xc3\x28\nshow 7 10 5\n # no comment\nfind 10 red",
         replies: b"ok 1\nno 1 Line\nno 1 Line\nno 1 Line\nno 1 Line\nno 1 Line\nno 1 Line\nno 1 Line\nno 1 Line\nno 1 Line\nhit 7 1\nend 1 read 1\n",
     },
-    // a line to come is declined, and the run goes on; the batch has the next line, and is one item
+    // the batch has the next line, and is one item
     Row {
         script: b"arrive 7 10 5\nred a\nbegin red guarantee 1/1\nformat 2\nbatch 1\ntop 1 10 red\nfind 10 red",
-        replies: b"ok 1\nno 1 Line\nok 2\nno 16 BatchLine 1\nhit 7 1\nend 1 read 1\n",
+        replies: b"ok 1\nno 8 NothingSealed\nok 2\nno 16 BatchLine 1\nhit 7 1\nend 1 read 1\n",
     },
     // comments, blank lines, spaces and line ends
     Row {

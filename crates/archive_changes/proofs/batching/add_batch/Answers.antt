@@ -39,9 +39,9 @@ returns-in-Ok-clause-by_reads g c = λ tells s in_step.
     let cached = rw same at c.commit_batch.ensures.cached in
     let led = entry_led r c.commit_batch.new.self (g.D.Disk.disk c.args.disk.now) (g.D.Disk.disk c.commit_batch.new.disk) s e c.in-Ok.prepared.body.items c.args.archive.now in_step tt next.spelled
     (IfOk-weaker r _ (λ _. StandsFor c.commit_batch.new.self (s.history ++ e ∷ [])) (λ n is. is.0) (made s.history (flat_map act_of c.args.items.now) in_step.stands next))
-    (crash tells (bodies_of s.history) in_step.journal) (c.commit_batch.ensures.pages tells) (c.commit_batch.ensures.pages_hold tells) (step tells (bodies_of s.history) in_step.journal) (λ ok. cached tells in_step.cached (inl ok)) (λ ok. rw same at c.commit_batch.ensures.unasked) in
+    (crash tells (bodies_of s.history) in_step.journal) (c.commit_batch.ensures.pages tells) (c.commit_batch.ensures.pages_hold tells) (step tells (bodies_of s.history) in_step.journal) (λ ok. cached tells in_step.cached (inl ok)) (λ ok. rw same at c.commit_batch.ensures.unasked) (λ ok. rw same at c.commit_batch.ensures.idle) in
     batch_by s (given.Command (commands.Batch (Items c.args.items.now))) e (batch_cause s.history c.args.items.now) c.for_whole.result _ _ c.args.archive.now c.commit_batch.new.self tt
-    (λ reply next adds stocks. (adds, stocks)) in_step (returns-in-Ok-clause-adds g c s.history in_step.stands)
+    (λ reply next adds job stocks. (adds, job, stocks)) in_step (returns-in-Ok-clause-adds g c s.history in_step.stands)
     (λ why index is. let was = unchanged why (told ∙ ap plainly is) in (was.0, ap g.D.Disk.disk was.1))
     (λ is. ap g.D.Disk.disk (c.commit_batch.ensures.memory (told ∙ ap plainly is)))
     (led.0, rw c.for_whole.ensures (on_whole r _ led.1))
@@ -57,7 +57,7 @@ returns-in-Err-clause-by_reads g c = λ tells s in_step.
     let gives = rw c.batch.ensures.same at c.give_up.ensures in
     let after = returns-in-Err-clause-after g c in
     batch_by s (given.Command (commands.Batch (Items c.args.items.now))) (Batch (flat_map act_of c.args.items.now)) (batch_cause s.history c.args.items.now) _ _ _ c.args.archive.now c.give_up.new.archive tt
-    (λ reply next adds stocks. (adds, stocks)) in_step
+    (λ reply next adds job stocks. (adds, job, stocks)) in_step
     (adds_declined c.in-Err.why c.give_up.result c.args.archive.now c.give_up.new.archive s.history c.args.items.now (c.in-Err.ensures.prepared s.history in_step.stands) gives)
     (λ why index is. ((after.same why (ap plainly is)).0, refl)) (λ is. refl)
     (keeps_leads s _ _ _ (keeps_nowhere _ c.args.archive.now s in_step), tt)

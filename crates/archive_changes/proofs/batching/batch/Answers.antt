@@ -13,7 +13,7 @@ returns-in-TooLong-clause-by_reads g c = λ tells s in_step.
     let disk = g.D.Disk.disk c.args.disk.now in
     let B : BatchItems → Type 0 = λ items. Batches s.history items (Refused c.too_long.result) s.history in
     refused_by s (given.Command (commands.Batch c.args.items.now)) (Refused c.too_long.result) disk c.args.archive.now c.args.archive.now in_step refl
-    (subst B (sym c.in-TooLong.is) (refl, ap Refused (c.too_long.ensures s.history in_step.stands)), stocks_same s c.args.archive.now disk in_step.live)
+    (subst B (sym c.in-TooLong.is) (refl, ap Refused (c.too_long.ensures s.history in_step.stands)), refl, stocks_same s c.args.archive.now disk in_step.live)
 
 pub returns-in-TooLong-clause-pages : goal.returns-in-TooLong-clause-pages
 returns-in-TooLong-clause-pages g c = λ tells. pages_nowhere _

@@ -25,5 +25,5 @@ returns-clause-by_reads g c = λ tells s in_step.
     let same = c.arrival-prepared.ensures.same in
     let after = returns-clause-after g c in
     entry_by s (items.Command (commands.Arrive c.args.doc c.args.at (texts.Bytes c.args.text.now))) (entries.Arrive c.args.doc c.args.at c.args.text.now) (arrival_refusal s.history c.args.doc c.args.at c.args.text.now) c.add.result _ _ c.args.archive.now c.add.new.archive tt
-    (λ reply next adds stocks. (adds, stocks)) in_step (returns-clause-adds g c s.history in_step.stands) (λ why is. ((after.same why is).0, ap g.D.Disk.disk (after.same why is).1)) (λ is. ap g.D.Disk.disk (after.memory is))
+    (λ reply next adds job stocks. (adds, job, stocks)) in_step (returns-clause-adds g c s.history in_step.stands) (λ why is. ((after.same why is).0, ap g.D.Disk.disk (after.same why is).1)) (λ is. ap g.D.Disk.disk (after.memory is))
     (c.add.ensures.by_reads tells s (entries.Arrive c.args.doc c.args.at c.args.text.now) (arrival_refusal s.history c.args.doc c.args.at c.args.text.now) (rw same in_step) (rw same (c.arrival-prepared.ensures.prepared s.history in_step.stands)))

@@ -24,5 +24,5 @@ returns-clause-by_reads g c = λ tells s in_step.
     let same = c.deletion-prepared.ensures.same in
     let after = returns-clause-after g c in
     entry_by s (items.Command (commands.Delete c.args.doc c.args.at)) (entries.Delete c.args.doc c.args.at) (deletion_refusal s.history c.args.doc c.args.at) c.add.result _ _ c.args.archive.now c.add.new.archive tt
-    (λ reply next adds stocks. (adds, stocks)) in_step (returns-clause-adds g c s.history in_step.stands) (λ why is. ((after.same why is).0, ap g.D.Disk.disk (after.same why is).1)) (λ is. ap g.D.Disk.disk (after.memory is))
+    (λ reply next adds job stocks. (adds, job, stocks)) in_step (returns-clause-adds g c s.history in_step.stands) (λ why is. ((after.same why is).0, ap g.D.Disk.disk (after.same why is).1)) (λ is. ap g.D.Disk.disk (after.memory is))
     (c.add.ensures.by_reads tells s (entries.Delete c.args.doc c.args.at) (deletion_refusal s.history c.args.doc c.args.at) (rw same in_step) (rw same (c.deletion-prepared.ensures.prepared s.history in_step.stands)))

@@ -7,6 +7,7 @@ use Rattle.pages_area.specs.Caches.{StandsFor as IsCacheOf}
 use Rattle.pages_area.specs.Wrote.{ranges_of}
 use Rattle.pages_sublists.specs.Preparing.{pieces}
 use Rattle.archive_hand.proofs.AddLemmas.{step_stays}
+use Rattle.archive_hand.proofs.JobLemmas.{others_stay}
 use Rattle.archive_hand.proofs.PutLemmas.{begun, on_err, one_pages, pieces_inside, put_down}
 use Rattle.archive_hand.specs.Storing.{IsPutDown}
 use Rattle.archive_hand.proofs.storing.put_down.Given.{Over}
@@ -16,6 +17,10 @@ use Rattle.archive_hand.proofs.storing.put_down.Goals as goal
 pub returns-in-Ok-clause-cached : goal.returns-in-Ok-clause-cached
 returns-in-Ok-clause-cached g c = λ tells cached.
     subst (λ (ps : List ℕ). IsCacheOf c.args.sublists.now.cache ps) (sym (c.in-Ok.ensures.pages_hold tells)) (c.in_ok-write.ensures.stays tells cached)
+
+pub returns-in-Ok-clause-others : goal.returns-in-Ok-clause-others
+returns-in-Ok-clause-others g c = λ tells ks apart stands.
+    subst (λ (ps : List ℕ). IsCacheOf ks ps) (sym (c.in-Ok.ensures.pages_hold tells)) (others_stay ks c.args.prepared.now (g.D.Disk.disk c.args.disk.now) (g.D.Disk.disk c.write.new.disk) apart (c.in_ok-write.ensures.stored tells) stands)
 
 pub returns-in-Ok-clause-entered : goal.returns-in-Ok-clause-entered
 returns-in-Ok-clause-entered g c = λ tells bodies step.

@@ -13,7 +13,7 @@ put_down-requires-clause-unkept g c =
     let shelf = c.args.shelf.now in
     let places = c.args.ready.prepared.places in
     let U : SublistsState → Type 0 = λ s. All (λ k. IsTaken (extents places) k.page → ⊥) s.cache in
-    subst U (sym c.sublists.ensures.value) (kept_apart shelf.pages (extents places) (extents_all shelf.plans) shelf.cache c.requires.taken c.sublists.ensures.lie)
+    subst U (sym c.sublists.ensures.value) (kept_apart shelf.pages (extents places) c.requires.taken.0 (extents_all shelf.plans) shelf.cache c.requires.taken.1 c.sublists.ensures.lie)
 
 pub returns-in-Ok-clause-cached : goal.returns-in-Ok-clause-cached
 returns-in-Ok-clause-cached g c = λ tells cached.

@@ -1,8 +1,8 @@
-use Rattle.std.proofs.Common.{refl}
-use Rattle.base_commands.specs.declared.command.Command.TheVariants as plain
+use Rattle.std.proofs.Common.{ap, refl}
 use Rattle.base_commands.specs.declared.command.Item.TheVariants as items
 use Rattle.model_archive.specs.declared.refusal.Refusal.TheVariants as refusals
-use Rattle.run_script.proofs.OutcomeLemmas.{answers_by, refused_by}
+use Rattle.archive_hand.specs.States.{ArchiveState}
+use Rattle.run_script.proofs.OutcomeLemmas.{answers_by, begun_left, refused_by}
 use Rattle.run_script.proofs.answer.answer.Goals as goal
 
 pub returns-in-Format-clause-outcome : goal.returns-in-Format-clause-outcome
@@ -12,7 +12,12 @@ pub returns-in-Batch-clause-outcome : goal.returns-in-Batch-clause-outcome
 returns-in-Batch-clause-outcome g c = λ tells s in_step. rw (c.in-Command.is, c.in-Batch.is) (answers_by s _ _ _ _ _ _ _ (c.batch-result.ensures.by_reads tells s in_step) c.write_batch.ensures.writes)
 
 pub returns-in-Begin-clause-outcome : goal.returns-in-Begin-clause-outcome
-returns-in-Begin-clause-outcome g c = λ tells s in_step. rw (c.in-Command.is, c.in-Begin.is) (refused_by s (items.Command (plain.Begin _ _)) refusals.Line _ _ _ _ (refl, refl) in_step c.refuse-in-Begin.ensures.goes_on c.refuse-in-Begin.ensures.reply)
+returns-in-Begin-clause-outcome g c = λ tells s in_step. rw (c.in-Command.is, c.in-Begin.is) (answers_by s _ _ _ _ _ _ _ (c.begin-result.ensures.by_reads _ s in_step) c.write_begun.ensures.writes)
+
+pub returns-in-Begin-clause-left : goal.returns-in-Begin-clause-left
+returns-in-Begin-clause-left g c =
+    begun_left _ c.write_begun.result (g.D.Disk.disk c.args.disk.now) c.args.archive.now c.begin-result.new.archive c.requires.ready (ap (λ (a : ArchiveState). a.live) c.begin-result.ensures.same) (c.begin-result.ensures.within (g.D.Disk.disk c.args.disk.now).reach)
+    (c.begin-result.ensures.cached (g.D.Disk.disk c.args.disk.now))
 
 pub returns-in-Best-clause-outcome : goal.returns-in-Best-clause-outcome
 returns-in-Best-clause-outcome g c = λ tells s in_step. rw (c.in-Command.is, c.in-Best.is) (answers_by s _ _ _ _ _ _ _ (c.best-result.ensures.by_reads tells s in_step) c.write_answer-in-Best.ensures.writes)
@@ -23,8 +28,8 @@ returns-in-Approx-clause-outcome g c = λ tells s in_step. rw (c.in-Command.is, 
 pub returns-in-Rough-clause-outcome : goal.returns-in-Rough-clause-outcome
 returns-in-Rough-clause-outcome g c = λ tells s in_step. rw (c.in-Command.is, c.in-Rough.is) (answers_by s _ _ _ _ _ _ _ (c.rough-result.ensures.by_reads tells s in_step) c.write_answer-in-Rough.ensures.writes)
 
-pub returns-clause-outcome : goal.returns-clause-outcome
-returns-clause-outcome g c = λ tells s in_step. rw (c.in-Command.is, c.in-Share.is) (answers_by s _ _ _ _ _ _ _ (c.share-result.ensures.by_reads _ s in_step) c.write_shared.ensures.writes)
+pub returns-in-Share-clause-outcome : goal.returns-in-Share-clause-outcome
+returns-in-Share-clause-outcome g c = λ tells s in_step. rw (c.in-Command.is, c.in-Share.is) (answers_by s _ _ _ _ _ _ _ (c.share-result.ensures.by_reads _ s in_step) c.write_shared.ensures.writes)
 
 pub returns-in_default-clause-outcome : goal.returns-in_default-clause-outcome
 returns-in_default-clause-outcome g c = λ tells s in_step. rw c.in_default.is (refused_by s items.Line refusals.Line _ _ _ _ (refl, refl) in_step c.refuse.ensures.goes_on c.refuse.ensures.reply)

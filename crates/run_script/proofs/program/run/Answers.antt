@@ -4,9 +4,9 @@ use Rattle.run_words.specs.Words.{AreWords, texts}
 use Rattle.run_words.specs.declared.task.Task.{Task}
 use Rattle.run_words.specs.declared.task.Task.TheVariants as tasks
 use Rattle.model_archive.specs.Stands.{StandsIn}
-use Rattle.model_archive.specs.Steps.{Step}
-use Rattle.model_archive.specs.Worlds.{world_of}
-use Rattle.archive_hand.specs.Stored.{StandsBy, StoreStep}
+use Rattle.model_archive.specs.Steps.{Step, Works}
+use Rattle.model_archive.specs.Worlds.{at_work, world_of}
+use Rattle.archive_hand.specs.Stored.{StandsBy, StoreStep, StoreStint, is_at_work}
 use Rattle.run_script.specs.Headline.{CarriesOutAll, store_of}
 use Rattle.run_script.specs.declared.status.Status.TheVariants.{Memory}
 use Rattle.run_script.proofs.PullLemmas.{not_pulled}
@@ -29,8 +29,9 @@ returns-in-Err-clause-headline g c = λ source_tells sink_tells disk_tells are h
       [],
       g.met.M.Machine.asked_laws.of_disk m m (g.met.M.Disk.only_same m),
       record {
-        headline = not_begun Step StandsIn (world_of h) c.in-Err.status _ _ (inr (inr (inl none))) (refl, refl) (kept_history h d d _ (g.met.M.Machine.beside_shown m sink_tells disk_tells) (keeps_still h d));
+        headline = not_begun Step Works at_work StandsIn (world_of h) c.in-Err.status _ _ (inr (inr (inl none))) (refl, refl) (kept_history h d d _ (g.met.M.Machine.beside_shown m sink_tells disk_tells) (keeps_still h d));
         over_all = refl;
+        with_stints = refl;
         undamaged = λ damage is. (let both = sym none ∙ is in absurd cc);
       },
     )
@@ -44,7 +45,7 @@ returns-in-Err-clause-by_reads g c = λ source_tells sink_tells disk_tells are h
       [],
       g.met.M.Machine.asked_laws.of_disk m m (g.met.M.Disk.only_same m),
       record {
-        headline = not_begun StoreStep StandsBy s c.in-Err.status _ _ (inr (inr (inl none))) (refl, refl) (kept_by s d d _ (g.met.M.Machine.beside_shown m sink_tells disk_tells) (keeps_still_by s d));
+        headline = not_begun StoreStep StoreStint is_at_work StandsBy s c.in-Err.status _ _ (inr (inr (inl none))) (refl, refl) (kept_by s d d _ (g.met.M.Machine.beside_shown m sink_tells disk_tells) (keeps_still_by s d));
         damaged = λ damage is. (let both = sym none ∙ is in absurd cc);
         read = λ done. absurd (subst CarriesOutAll none done);
       },

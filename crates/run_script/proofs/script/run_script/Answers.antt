@@ -3,10 +3,10 @@ use Rattle.machine_model.specs.Pulls.{Pull}
 use Rattle.machine_model.specs.States.{SourceState, SinkState, state_by}
 use Rattle.model_archive.specs.Histories.{History}
 use Rattle.model_archive.specs.Stands.{StandsIn}
-use Rattle.model_archive.specs.Steps.{Step}
-use Rattle.model_archive.specs.Worlds.{world_of}
+use Rattle.model_archive.specs.Steps.{Step, Works}
+use Rattle.model_archive.specs.Worlds.{at_work, world_of}
 use Rattle.model_archive.proofs.StandsLemmas.{not_archive_once}
-use Rattle.archive_hand.specs.Stored.{StandsBy, StoreStep}
+use Rattle.archive_hand.specs.Stored.{StandsBy, StoreStep, StoreStint, is_at_work}
 use Rattle.run_script.specs.Causes.{MayEnd}
 use Rattle.run_script.specs.Headline.{LoadsAs, store_of}
 use Rattle.run_script.specs.Serving.{Serves}
@@ -28,8 +28,9 @@ returns-in-Err-clause-headline g c = λ source_tells sink_tells disk_tells h sta
       [],
       g.met.M.Machine.asked_laws.of_disk m m (g.met.M.Disk.only_same m),
       record {
-        headline = not_begun Step StandsIn (world_of h) Memory _ _ (inr (inr (inl refl))) (refl, refl) (kept_history h d d _ (g.met.M.Machine.beside_shown m sink_tells disk_tells) (keeps_still h d));
+        headline = not_begun Step Works at_work StandsIn (world_of h) Memory _ _ (inr (inr (inl refl))) (refl, refl) (kept_history h d d _ (g.met.M.Machine.beside_shown m sink_tells disk_tells) (keeps_still h d));
         over_all = refl;
+        with_stints = refl;
         undamaged = λ damage is. cc;
       },
     )
@@ -42,7 +43,7 @@ returns-in-Err-clause-by_reads g c = λ source_tells sink_tells disk_tells h beg
       [],
       g.met.M.Machine.asked_laws.of_disk m m (g.met.M.Disk.only_same m),
       record {
-        headline = not_begun StoreStep StandsBy s Memory _ _ (inr (inr (inl refl))) (refl, refl) (kept_by s d d _ (g.met.M.Machine.beside_shown m sink_tells disk_tells) (keeps_still_by s d));
+        headline = not_begun StoreStep StoreStint is_at_work StandsBy s Memory _ _ (inr (inr (inl refl))) (refl, refl) (kept_by s d d _ (g.met.M.Machine.beside_shown m sink_tells disk_tells) (keeps_still_by s d));
         damaged = λ damage is. cc;
         read = λ done. absurd done;
       },
@@ -71,9 +72,10 @@ returns-in-Err-load-clause-headline g c = λ source_tells sink_tells disk_tells 
       [],
       g.met.M.Machine.asked_laws.of_disk m n c.load.ensures.only,
       record {
-        headline = not_begun Step StandsIn (world_of h) c.from.result _ _ ends (g.met.M.Machine.disk_alone m n c.load.ensures.only)
+        headline = not_begun Step Works at_work StandsIn (world_of h) c.from.result _ _ ends (g.met.M.Machine.disk_alone m n c.load.ensures.only)
             (kept_history h (g.M.Disk.disk m) (g.M.Disk.disk n) _ (g.met.M.Machine.beside_shown m sink_tells disk_tells) (c.load.ensures.crash disk_tells h));
         over_all = refl;
+        with_stints = refl;
         undamaged = λ damage is. load_undamaged c.from.result c.in-Err-load.error damage c.from.ensures is;
       },
     )
@@ -88,7 +90,7 @@ returns-in-Err-load-clause-by_reads g c = λ source_tells sink_tells disk_tells 
       [],
       g.met.M.Machine.asked_laws.of_disk m n c.load.ensures.only,
       record {
-        headline = not_begun StoreStep StandsBy s c.from.result _ _ ends (g.met.M.Machine.disk_alone m n c.load.ensures.only)
+        headline = not_begun StoreStep StoreStint is_at_work StandsBy s c.from.result _ _ ends (g.met.M.Machine.disk_alone m n c.load.ensures.only)
             (kept_by s d (g.M.Disk.disk n) _ (g.met.M.Machine.beside_shown m sink_tells disk_tells) (load_keeps s d (g.M.Disk.disk n) (c.load.ensures.kept disk_tells) (c.load.ensures.pages disk_tells)));
         damaged = λ damage is. absurd (load_undamaged c.from.result c.in-Err-load.error damage c.from.ensures is);
         read = λ done. absurd (not_early c.from.result ends done);
@@ -158,7 +160,7 @@ returns-clause-headline g c = λ source_tells sink_tells disk_tells h stands.
       pulls,
       asked,
       standing_run h d c.serve.result (state_by g.M.Source.source g.M.Sink.sink g.M.Disk.disk m) (g.M.Disk.disk c.load.new.disk) (state_by g.M.Source.source g.M.Sink.sink g.M.Disk.disk c.serve.new.machine) pulls
-          (record { loadable = stands.loadable; held = stands.held }) (g.met.M.Machine.beside_shown m sink_tells disk_tells) (c.load.ensures.crash disk_tells h) serves,
+          (record { loadable = stands.loadable; may = tt; held = stands.held }) (g.met.M.Machine.beside_shown m sink_tells disk_tells) (c.load.ensures.crash disk_tells h) serves,
     )
 
 pub returns-clause-by_reads : goal.returns-clause-by_reads

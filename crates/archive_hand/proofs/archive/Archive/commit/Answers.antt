@@ -11,11 +11,14 @@ use Rattle.lists_index.specs.Indexing.{IndexValue, AreIndexed}
 use Rattle.lists_index.specs.Measuring.{IsMeasured}
 use Rattle.archive_entries.specs.Entries.{IsHeld}
 use Rattle.archive_hand.specs.Adding.{IsMore}
+use Rattle.archive_hand.specs.Jobs.{written_of}
 use Rattle.archive_hand.specs.States.{ArchiveState, StandsFor, IsSound}
+use Rattle.pages_sublists.specs.Paged.{ReachPages}
 use Rattle.archive_plans.specs.Shelves.{extents_all}
 use Rattle.archive_hand.proofs.CacheLemmas.{cached_on, is_sound, stands_live}
 use Rattle.journal_gates.proofs.InStepLemmas.{step_at}
 use Rattle.archive_hand.proofs.AddLemmas.{appends_nowhere, end_stays, inside_on, pages_nowhere, stands_more}
+use Rattle.archive_hand.proofs.JobLemmas.{reach_on}
 use Rattle.archive_hand.proofs.archive.Archive.commit.Given.{Over}
 use Rattle.archive_hand.proofs.archive.Archive.commit.Goals as goal
 
@@ -55,7 +58,7 @@ returns-clause-crash g c = λ tells bodies step.
 
 -- an archive with the entry
 more : (g : Over) (c : goal.After-drop-body-in-Ok g)
-    → IsMore c.args.self.now (record { end = c.append.new.self.end; live = true; length = c.self.inside.entries + 1; changes = c.note.new.directory.changes; index = state_of c.commit.new.self; shelf = c.self.inside.shelf; marked = c.self.inside.marked; asked = c.self.inside.asked })
+    → IsMore c.args.self.now (record { end = c.append.new.self.end; live = true; length = c.self.inside.entries + 1; changes = c.note.new.directory.changes; index = state_of c.commit.new.self; shelf = c.self.inside.shelf; marked = c.self.inside.marked; asked = c.self.inside.asked; job = c.self.inside.job })
     c.args.prepared.change c.args.prepared.body.items c.args.prepared.words
 more g c =
     rw (← c.self.view_is) (record {
@@ -68,6 +71,7 @@ more g c =
       shelf_is = refl;
       marked_is = refl;
       asked_is = refl;
+      job_is = refl;
       indexed = λ texts doc text stands prepared later. c.commit.ensures texts doc text
           (subst (λ (v : IndexValue). AreIndexed v texts) (sym c.make_room.ensures.same) stands)
           (record { doc_is = prepared.doc_is; measured = subst (λ (v : IndexValue). IsMeasured v.words text c.args.prepared.words.fresh.items c.args.prepared.words.weights) (sym c.make_room.ensures.same) prepared.measured }) later;
@@ -92,13 +96,16 @@ returns-then-limit-end-clause-cached g c = λ tells cached is. cached
 
 pub returns-in-Ok-clause-cached : goal.returns-in-Ok-clause-cached
 returns-in-Ok-clause-cached g c = λ tells cached is.
-    cached_on c.args.self.now.shelf.cache c.self.inside.shelf.cache (g.D.Disk.disk c.args.disk.now) (g.D.Disk.disk c.append.new.disk) (ap (λ (s : ArchiveState). s.shelf.cache) c.self.view_is) (c.in-Ok.ensures.pages_hold tells) cached
+    cached_on (c.args.self.now.shelf.cache ++ written_of c.args.self.now.job) (c.self.inside.shelf.cache ++ written_of c.self.inside.job) (g.D.Disk.disk c.args.disk.now) (g.D.Disk.disk c.append.new.disk) (ap (λ (s : ArchiveState). s.shelf.cache ++ written_of s.job) c.self.view_is) (c.in-Ok.ensures.pages_hold tells) cached
 
 pub returns-clause-within : goal.returns-clause-within
 returns-clause-within g c =
     let view = ap (λ s. s.end) c.self.view_is in
     let reach = g.met.D.Disk.only_reach c.args.disk.now c.append.new.disk Journal c.append.ensures.only in
-    let P : ArchiveState → Type 0 = λ a. All (IsInside (g.D.Disk.disk c.append.new.disk).reach.pages) (extents_all a.shelf.plans) in (
+    let P : ArchiveState → Type 0 = λ a. All (IsInside (g.D.Disk.disk c.append.new.disk).reach.pages) (extents_all a.shelf.plans) in
+    let W : ArchiveState → Type 0 = λ a. ReachPages (g.D.Disk.disk c.append.new.disk).reach.pages (written_of a.job) in
+    let further = g.met.D.Disk.only_reach c.args.disk.now c.append.new.disk Pages c.append.ensures.only in (
       omega (arith, end_stays c.in-Err.field-0 c.append.new.self c.self.inside.journal (λ is. (c.in-Err.ensures.same (ap Err is)).0) (λ is. c.in-Err.ensures.spent (ap Err is)), view, reach, c.requires.within.0),
-      subst P (sym c.self.view_is) (inside_on _ _ _ (g.met.D.Disk.only_reach c.args.disk.now c.append.new.disk Pages c.append.ensures.only) c.requires.within.1),
+      subst P (sym c.self.view_is) (inside_on _ _ _ further c.requires.within.1),
+      subst W (sym c.self.view_is) (reach_on _ _ _ further c.requires.within.2),
     )

@@ -10,10 +10,13 @@ use Rattle.journal_gates.proofs.InStepLemmas.{step_at}
 use Rattle.lists_index.specs.Indexes.{Indexes, state_of}
 use Rattle.model_archive.specs.Histories.{History, changes}
 use Rattle.archive_entries.specs.Batches.{IsNextBatch}
+use Rattle.pages_sublists.specs.Paged.{ReachPages}
 use Rattle.archive_plans.specs.Shelves.{extents_all}
+use Rattle.archive_hand.specs.Jobs.{written_of}
 use Rattle.archive_hand.specs.States.{ArchiveState, StandsFor, IsSound}
 use Rattle.archive_hand.proofs.AddLemmas.{appends_nowhere, end_stays, inside_on, pages_nowhere, stands_batch}
 use Rattle.archive_hand.proofs.CacheLemmas.{cached_on, is_sound, stands_live}
+use Rattle.archive_hand.proofs.JobLemmas.{reach_on}
 use Rattle.archive_hand.proofs.archive.Archive.commit_batch.Given.{Over}
 use Rattle.archive_hand.proofs.archive.Archive.commit_batch.Goals as goal
 
@@ -56,15 +59,18 @@ returns-then-limit-end-clause-cached g c = λ tells cached is. cached
 
 pub returns-in-Ok-clause-cached : goal.returns-in-Ok-clause-cached
 returns-in-Ok-clause-cached g c = λ tells cached is.
-    cached_on c.args.self.now.shelf.cache c.self.inside.shelf.cache (g.D.Disk.disk c.args.disk.now) (g.D.Disk.disk c.append.new.disk) (ap (λ (s : ArchiveState). s.shelf.cache) c.self.view_is) (c.in-Ok.ensures.pages_hold tells) cached
+    cached_on (c.args.self.now.shelf.cache ++ written_of c.args.self.now.job) (c.self.inside.shelf.cache ++ written_of c.self.inside.job) (g.D.Disk.disk c.args.disk.now) (g.D.Disk.disk c.append.new.disk) (ap (λ (s : ArchiveState). s.shelf.cache ++ written_of s.job) c.self.view_is) (c.in-Ok.ensures.pages_hold tells) cached
 
 pub returns-clause-within : goal.returns-clause-within
 returns-clause-within g c =
     let view = ap (λ s. s.end) c.self.view_is in
     let reach = g.met.D.Disk.only_reach c.args.disk.now c.append.new.disk Journal c.append.ensures.only in
-    let P : ArchiveState → Type 0 = λ a. All (IsInside (g.D.Disk.disk c.append.new.disk).reach.pages) (extents_all a.shelf.plans) in (
+    let P : ArchiveState → Type 0 = λ a. All (IsInside (g.D.Disk.disk c.append.new.disk).reach.pages) (extents_all a.shelf.plans) in
+    let W : ArchiveState → Type 0 = λ a. ReachPages (g.D.Disk.disk c.append.new.disk).reach.pages (written_of a.job) in
+    let further = g.met.D.Disk.only_reach c.args.disk.now c.append.new.disk Pages c.append.ensures.only in (
       omega (arith, end_stays c.in-Err.field-0 c.append.new.self c.self.inside.journal (λ is. (c.in-Err.ensures.same (ap Err is)).0) (λ is. c.in-Err.ensures.spent (ap Err is)), view, reach, c.requires.within.0),
-      subst P (sym c.self.view_is) (inside_on _ _ _ (g.met.D.Disk.only_reach c.args.disk.now c.append.new.disk Pages c.append.ensures.only) c.requires.within.1),
+      subst P (sym c.self.view_is) (inside_on _ _ _ further c.requires.within.1),
+      subst W (sym c.self.view_is) (reach_on _ _ _ further c.requires.within.2),
     )
 
 -- an index that took the acts in tells of them
@@ -80,7 +86,7 @@ taken g c h batch now next =
 
 -- an archive with the batch
 made : (g : Over) (c : goal.After-drop-changes-in-Ok g) (h : History) (batch : List Act) → StandsFor c.args.self.now h → IsNextBatch h batch c.args.prepared
-    → StandsFor (record { end = c.append.new.self.end; live = true; length = c.self.inside.entries + 1; changes = c.note_all.new.directory.changes; index = state_of c.take_in_all.new.index; shelf = c.self.inside.shelf; marked = c.self.inside.marked; asked = c.self.inside.asked }) (h ++ Batch batch ∷ [])
+    → StandsFor (record { end = c.append.new.self.end; live = true; length = c.self.inside.entries + 1; changes = c.note_all.new.directory.changes; index = state_of c.take_in_all.new.index; shelf = c.self.inside.shelf; marked = c.self.inside.marked; asked = c.self.inside.asked; job = c.self.inside.job }) (h ++ Batch batch ∷ [])
 made g c h batch now next =
     let stands = subst (λ (a : ArchiveState). StandsFor a h) (sym c.self.view_is) now in
     stands_batch _ h batch c.args.prepared c.append.new.self.end c.note_all.new.directory.changes (state_of c.take_in_all.new.index) stands next

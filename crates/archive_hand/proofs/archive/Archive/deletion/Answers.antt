@@ -5,7 +5,7 @@ use Rattle.archive_hand.proofs.archive.Archive.deletion.Goals as goal
 
 pub returns-clause-same : goal.returns-clause-same
 returns-clause-same c =
-    let A : IndexState → ArchiveState = λ i. record { end = c.self.inside.journal.end; live = c.self.inside.live; length = c.self.inside.entries; changes = c.self.inside.directory.changes; index = i; shelf = c.self.inside.shelf; marked = c.self.inside.marked; asked = c.self.inside.asked } in
+    let A : IndexState → ArchiveState = λ i. record { end = c.self.inside.journal.end; live = c.self.inside.live; length = c.self.inside.entries; changes = c.self.inside.directory.changes; index = i; shelf = c.self.inside.shelf; marked = c.self.inside.marked; asked = c.self.inside.asked; job = c.self.inside.job } in
     ap A c.prepare_deletion.ensures.same ∙ c.self.view_is
 
 pub returns-clause-prepared : goal.returns-clause-prepared

@@ -1,8 +1,10 @@
-use Rattle.std.proofs.Common.{◌≡◌, ◌<◌, length, ap, subst, sym}
+use Rattle.std.proofs.Common.{◌≡◌, ◌+◌, ◌<◌, Some, OnOk, get_or, length, ap, subst, sym}
 use Rattle.lists_index.specs.Indexes.{state_of}
+use Rattle.model_archive.specs.Chosen.{pieces_chosen}
 use Rattle.archive_plans.specs.Shelves.{ShelfState}
+use Rattle.archive_hand.specs.Asking.{HasAsked}
 use Rattle.archive_hand.specs.States.{ArchiveState, IsSameButCache, Reaches}
-use Rattle.archive_hand.proofs.CacheLemmas.{sound_but_cache}
+use Rattle.archive_hand.proofs.CacheLemmas.{kept_stands, on_ok_both, reads_stand, sound_but_cache}
 use Rattle.archive_hand.proofs.ReadableLemmas.{readable}
 use Rattle.archive_hand.proofs.archive.Archive.frames_at.Goals as goal
 
@@ -19,7 +21,7 @@ but_cache a shelf kept = ap (λ (s : ShelfState). record a { shelf = s }) kept
 
 pub invariant_of-self : goal.invariant_of-self
 invariant_of-self g c =
-    let a : ArchiveState = record { end = c.self.inside.journal.end; live = c.self.inside.live; length = c.self.inside.entries; changes = c.self.inside.directory.changes; index = state_of c.self.inside.index; shelf = c.self.inside.shelf; marked = c.self.inside.marked; asked = c.self.inside.asked } in (
+    let a : ArchiveState = record { end = c.self.inside.journal.end; live = c.self.inside.live; length = c.self.inside.entries; changes = c.self.inside.directory.changes; index = state_of c.self.inside.index; shelf = c.self.inside.shelf; marked = c.self.inside.marked; asked = c.self.inside.asked; job = c.self.inside.job } in (
       c.self.invariant.0,
       c.self.invariant.1,
       sound_but_cache a (record a { shelf = c.frames_at.new.self }) (but_cache a c.frames_at.new.self c.frames_at.ensures.kept) c.self.invariant.2,
@@ -27,5 +29,33 @@ invariant_of-self g c =
 
 pub returns-clause-but_cache : goal.returns-clause-but_cache
 returns-clause-but_cache g c =
-    let a : ArchiveState = record { end = c.self.inside.journal.end; live = c.self.inside.live; length = c.self.inside.entries; changes = c.self.inside.directory.changes; index = state_of c.self.inside.index; shelf = c.self.inside.shelf; marked = c.self.inside.marked; asked = c.self.inside.asked } in
+    let a : ArchiveState = record { end = c.self.inside.journal.end; live = c.self.inside.live; length = c.self.inside.entries; changes = c.self.inside.directory.changes; index = state_of c.self.inside.index; shelf = c.self.inside.shelf; marked = c.self.inside.marked; asked = c.self.inside.asked; job = c.self.inside.job } in
     subst (λ (x : ArchiveState). IsSameButCache x (record a { shelf = c.frames_at.new.self })) c.self.view_is (but_cache a c.frames_at.new.self c.frames_at.ensures.kept)
+
+pub returns-clause-cached : goal.returns-clause-cached
+returns-clause-cached g c = λ tells cached.
+    let a : ArchiveState = record { end = c.self.inside.journal.end; live = c.self.inside.live; length = c.self.inside.entries; changes = c.self.inside.directory.changes; index = state_of c.self.inside.index; shelf = c.self.inside.shelf; marked = c.self.inside.marked; asked = c.self.inside.asked; job = c.self.inside.job } in
+    let old = g.D.Disk.disk c.args.disk.now in
+    reads_stand old (g.D.Disk.disk c.frames_at.new.disk) a c.args.self.now c.frames_at.new.self.cache c.self.view_is c.frames_at.ensures.same cached (c.frames_at.ensures.stays tells (kept_stands old a c.args.self.now c.self.view_is cached))
+
+pub returns-clause-asked : goal.returns-clause-asked
+returns-clause-asked g c = λ tells cached s is turn.
+    let a : ArchiveState = record { end = c.self.inside.journal.end; live = c.self.inside.live; length = c.self.inside.entries; changes = c.self.inside.directory.changes; index = state_of c.self.inside.index; shelf = c.self.inside.shelf; marked = c.self.inside.marked; asked = c.self.inside.asked; job = c.self.inside.job } in
+    let old = g.D.Disk.disk c.args.disk.now in
+    let new = g.D.Disk.disk c.frames_at.new.disk in
+    let kept = kept_stands old a c.args.self.now c.self.view_is cached in
+    let there : s ≡ get_or a.shelf.plans c.args.place s = subst (λ (x : ArchiveState). s ≡ get_or x.shelf.plans c.args.place s) (sym c.self.view_is) is in
+    let pieces = (pieces_chosen (g.D.Disk.disk c.args.disk.now).holds.pages (Some s.plan) c.args.t.seconds (c.args.t.seconds + 1)) in
+    subst (λ (x : ArchiveState). OnOk c.frames_at.result (HasAsked pieces x.shelf.cache c.frames_at.new.self.cache old new)) c.self.view_is
+    (on_ok_both c.frames_at.result _ _ (HasAsked pieces a.shelf.cache c.frames_at.new.self.cache old new) (λ one two. record { count = two; cache = one })
+    (c.frames_at.ensures.asked tells kept s there turn) (c.frames_at.ensures.count tells kept s there turn))
+
+pub returns-clause-framed : goal.returns-clause-framed
+returns-clause-framed g c = λ tells cached s is turn.
+    let a : ArchiveState = record { end = c.self.inside.journal.end; live = c.self.inside.live; length = c.self.inside.entries; changes = c.self.inside.directory.changes; index = state_of c.self.inside.index; shelf = c.self.inside.shelf; marked = c.self.inside.marked; asked = c.self.inside.asked; job = c.self.inside.job } in
+    c.frames_at.ensures.framed tells (kept_stands (g.D.Disk.disk c.args.disk.now) a c.args.self.now c.self.view_is cached) s (subst (λ (x : ArchiveState). s ≡ get_or x.shelf.plans c.args.place s) (sym c.self.view_is) is) turn
+
+pub returns-clause-damaged : goal.returns-clause-damaged
+returns-clause-damaged g c = λ tells cached s is turn.
+    let a : ArchiveState = record { end = c.self.inside.journal.end; live = c.self.inside.live; length = c.self.inside.entries; changes = c.self.inside.directory.changes; index = state_of c.self.inside.index; shelf = c.self.inside.shelf; marked = c.self.inside.marked; asked = c.self.inside.asked; job = c.self.inside.job } in
+    c.frames_at.ensures.damaged tells (kept_stands (g.D.Disk.disk c.args.disk.now) a c.args.self.now c.self.view_is cached) s (subst (λ (x : ArchiveState). s ≡ get_or x.shelf.plans c.args.place s) (sym c.self.view_is) is) turn

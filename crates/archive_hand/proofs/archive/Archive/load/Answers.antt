@@ -1,4 +1,4 @@
-use Rattle.std.proofs.Common.{◌≡◌, ℕ, ◌∙◌, List, [], length, inl, ap, refl, sym, subst}
+use Rattle.std.proofs.Common.{None, ◌≡◌, ℕ, ◌∙◌, List, [], length, inl, ap, refl, sym, subst}
 use Rattle.std.proofs.lemmas.Result.{IfOk-weaker, err_from_is_err_and}
 use Rattle.machine_model.specs.declared.area.Area.TheVariants.{Pages}
 use Rattle.journal_gates.specs.Spelled.{Spells}
@@ -69,9 +69,10 @@ returns-clause-by_reads g c = λ tells.
     let found = c.in_ok-journal.ensures.found tells in
     let step = c.in_ok-journal.ensures.in_step tells found.bodies found.spelled in
     let known = IfOk-both c.archive_of.result _ _ (λ a. (a.end ≡ c.in_ok-journal.journal.end) × (a.shelf.cache ≡ [])) (λ a end empty. (end, empty)) c.archive_of.ensures.end c.archive_of.ensures.empty in
-    let within = IfOk-both c.archive_of.result _ _ (λ a. Reaches (g.D.Disk.disk c.archive_of.new.disk).reach a × (a.asked ≡ [])) (λ a one two. (one, two)) c.archive_of.ensures.within c.archive_of.ensures.unasked in
-    IfOk-both c.archive_of.result (λ a. ((a.end ≡ c.in_ok-journal.journal.end) × (a.shelf.cache ≡ [])) × (Reaches (g.D.Disk.disk c.archive_of.new.disk).reach a × (a.asked ≡ []))) _ _ (λ a ((end, empty), (within, unasked)) all. loaded_by a (g.D.Disk.disk c.load.new.disk) (g.D.Disk.disk c.archive_of.new.disk) (g.D.Disk.disk c.args.disk.now).holds c.in_ok-journal.journal.end found.bodies all.0
-    all.1.0 empty end all.1.1 found.spelled step.1 c.archive_of.ensures.same (c.in_ok-journal.ensures.one tells) (c.in_ok-journal.ensures.pages_hold tells) within (g.met.D.Disk.reach_holds c.archive_of.new.disk Pages tells) unasked)
+    let fresh = IfOk-both c.archive_of.result _ _ (λ a. (a.asked ≡ []) × (a.job ≡ None)) (λ a one two. (one, two)) c.archive_of.ensures.unasked c.archive_of.ensures.idle in
+    let within = IfOk-both c.archive_of.result _ _ (λ a. Reaches (g.D.Disk.disk c.archive_of.new.disk).reach a × ((a.asked ≡ []) × (a.job ≡ None))) (λ a one two. (one, two)) c.archive_of.ensures.within fresh in
+    IfOk-both c.archive_of.result (λ a. ((a.end ≡ c.in_ok-journal.journal.end) × (a.shelf.cache ≡ [])) × (Reaches (g.D.Disk.disk c.archive_of.new.disk).reach a × ((a.asked ≡ []) × (a.job ≡ None)))) _ _ (λ a ((end, empty), (within, (unasked, idle))) all. loaded_by a (g.D.Disk.disk c.load.new.disk) (g.D.Disk.disk c.archive_of.new.disk) (g.D.Disk.disk c.args.disk.now).holds c.in_ok-journal.journal.end found.bodies all.0
+    all.1.0 empty idle end all.1.1 found.spelled step.1 c.archive_of.ensures.same (c.in_ok-journal.ensures.one tells) (c.in_ok-journal.ensures.pages_hold tells) within (g.met.D.Disk.reach_holds c.archive_of.new.disk Pages tells) unasked)
     (IfOk-both c.archive_of.result _ _ _ (λ a one two. (one, two)) known within) (c.archive_of.ensures.found tells found.bodies (c.deref.ensures.value ∙ found.laid_out.heads_are) step.2)
 
 pub returns-clause-in_step : goal.returns-clause-in_step

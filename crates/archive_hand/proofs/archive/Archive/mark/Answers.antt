@@ -6,10 +6,13 @@ use Rattle.journal_gates.proofs.InStepLemmas.{step_at}
 use Rattle.journal_entries.specs.Spelling.{spelling}
 use Rattle.journal_entries.specs.declared.entry.Entry.TheVariants.{Format}
 use Rattle.model_archive.specs.Histories.{History}
+use Rattle.pages_sublists.specs.Paged.{ReachPages}
 use Rattle.archive_plans.specs.Shelves.{extents_all}
+use Rattle.archive_hand.specs.Jobs.{written_of}
 use Rattle.archive_hand.specs.States.{ArchiveState, StandsFor, IsSound}
 use Rattle.archive_hand.proofs.CacheLemmas.{is_sound, stands_live}
 use Rattle.archive_hand.proofs.AddLemmas.{appends_nowhere, end_stays, inside_on, pages_nowhere, stands_marked, unrefused, with_mark}
+use Rattle.archive_hand.proofs.JobLemmas.{reach_on}
 use Rattle.archive_hand.proofs.archive.Archive.mark.Given.{Over}
 use Rattle.archive_hand.proofs.archive.Archive.mark.Goals as goal
 
@@ -67,7 +70,10 @@ pub returns-clause-within : goal.returns-clause-within
 returns-clause-within g c =
     let view = ap (λ s. s.end) c.self.view_is in
     let reach = g.met.D.Disk.only_reach c.args.disk.now c.append.new.disk Journal c.append.ensures.only in
-    let P : ArchiveState → Type 0 = λ a. All (IsInside (g.D.Disk.disk c.append.new.disk).reach.pages) (extents_all a.shelf.plans) in (
+    let P : ArchiveState → Type 0 = λ a. All (IsInside (g.D.Disk.disk c.append.new.disk).reach.pages) (extents_all a.shelf.plans) in
+    let W : ArchiveState → Type 0 = λ a. ReachPages (g.D.Disk.disk c.append.new.disk).reach.pages (written_of a.job) in
+    let further = g.met.D.Disk.only_reach c.args.disk.now c.append.new.disk Pages c.append.ensures.only in (
       omega (arith, end_stays c.in-Err.field-0 c.append.new.self c.self.inside.journal (λ is. (c.in-Err.ensures.same (ap Err is)).0) (λ is. c.in-Err.ensures.spent (ap Err is)), view, reach, c.requires.within.0),
-      subst P (sym c.self.view_is) (inside_on _ _ _ (g.met.D.Disk.only_reach c.args.disk.now c.append.new.disk Pages c.append.ensures.only) c.requires.within.1),
+      subst P (sym c.self.view_is) (inside_on _ _ _ further c.requires.within.1),
+      subst W (sym c.self.view_is) (reach_on _ _ _ further c.requires.within.2),
     )
