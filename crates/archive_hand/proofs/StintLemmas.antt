@@ -1,12 +1,12 @@
 -- The calls of a stint: what is asked of them, and what the last pages come to on the disk.
-use Rattle.std.proofs.Common.{All, Bool, IsTrue, List, Option, Some, [], ap, arith, get_or, inl, inr, length, length-append, refl, subst, sym, take, ℕ, ◌*◌, ◌++◌, ◌+◌, ◌-◌, ◌<◌, ◌∙◌, ◌∷◌, ◌≡◌, ◌≤◌}
+use Rattle.std.proofs.Common.{All, Bool, IsTrue, List, Option, Some, [], arith, inl, inr, length, length-append, refl, subst, sym, take, ℕ, ◌*◌, ◌++◌, ◌+◌, ◌-◌, ◌<◌, ◌∷◌, ◌≡◌, ◌≤◌}
 use Rattle.std.specs.List.{AllZip}
 use Rattle.std.proofs.Math.Seq.{take-add}
 use Rattle.std.proofs.lemmas.Bool.{cases_lt}
-use Rattle.std.proofs.lemmas.List.{map-append, take_all, take_more}
+use Rattle.std.proofs.lemmas.List.{take_all}
 use Rattle.std.proofs.lemmas.List.Elements.{All-append, All-cons, All-head, All-nil, All-tail}
 use Rattle.std.proofs.lemmas.List.FromFn.{length-map-range_with_len}
-use Rattle.std.proofs.lemmas.List.Sums.{sum_by-cons, sum_by_push}
+use Rattle.std.proofs.lemmas.List.Sums.{sum_by-cons}
 use Rattle.machine_model.specs.Calls.{IsSynced, Syncs}
 use Rattle.machine_model.specs.Images.{MayLeave}
 use Rattle.machine_model.specs.States.{DiskState}
@@ -39,15 +39,7 @@ use Rattle.archive_hand.proofs.CacheLemmas.{kept_apart}
 use Rattle.archive_hand.proofs.JobLemmas.{reach_on, written_part}
 use Rattle.archive_hand.proofs.PutLemmas.{begun, put_down}
 
--- ---- how many pages places take
-
-pub pages_more : (places : List Place) (i : ℕ) (d : Place) → i < length places → pages_in (extents (take (i + 1) places)) ≡ pages_in (extents (take i places)) + pages_for (get_or places i d).extent.bytes
-pages_more places i d within =
-    let x : Place = get_or places i d in
-    ap (λ (ps : List Place). pages_in (extents ps)) (take_more places i d within) ∙ ap pages_in (map-append (λ (p : Place). p.extent) (take i places) (x ∷ []))
-    ∙ sum_by_push (λ (e : Extent). pages_for e.bytes) (extents (take i places)) x.extent
-
--- sublists have as many
+-- Sublists have as many pages as their places take.
 pub pages_many : (places : List Place) (all : List (List ℕ)) → AllZip IsFor places all → length (pages_of (pieces_of places all)) ≡ pages_in (extents places)
 pages_many [] all each = refl
 pages_many (p ∷ places) [] each = absurd each

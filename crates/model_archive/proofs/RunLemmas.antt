@@ -258,24 +258,3 @@ works_on {S} {E} {R} step stint at_work Fair Fine each more still state (e ∷ e
     λ s good. works_on step stint at_work Fair Fine each more still s events good (All-tail Fine e events fine) in
     let on = work_behind stint Fair (at_work state) one.0.next (λ s os. IsRunWith step stint at_work s events os) one.2 (λ working. more one.0.next one.2 (still state e one.0 working one.1)) rest in
     (one.0 ∷ on.0, (one.1, on.1), on.2)
-
--- Stints lead to a state that is not at work, where each leaves less to do.
-pub stints_end : {S R : Type 0} (stint : S → R → S → Type 0) (at_work : S → Bool) (left : S → ℕ) (Fair : S → Type 0)
-    → ((s : S) → Fair s → at_work s ≡ true → (o : Outcome R S) × stint s o.reply o.next × Fair o.next × (left o.next < left s))
-    → (n : ℕ) (state : S) → left state ≤ n → Fair state → (outcomes : List (Outcome R S)) × AreStints stint state outcomes × Fair (last_state state outcomes) × (at_work (last_state state outcomes) ≡ false)
-stints_end {S} {R} stint at_work left Fair more zero state low fair = go (at_work state) refl
-  where
-    go : (working : Bool) → at_work state ≡ working → (outcomes : List (Outcome R S)) × AreStints stint state outcomes × Fair (last_state state outcomes) × (at_work (last_state state outcomes) ≡ false)
-    go false is = ([], tt, fair, is)
-    go true is = let work = more state fair is in absurd (omega (arith, work.3, low))
-stints_end {S} {R} stint at_work left Fair more (suc n) state low fair =
-    go (at_work state) refl (λ s less good. stints_end stint at_work left Fair more n s less good)
-  where
-    go : (working : Bool) → at_work state ≡ working
-        → ((s : S) → left s ≤ n → Fair s → (outcomes : List (Outcome R S)) × AreStints stint s outcomes × Fair (last_state s outcomes) × (at_work (last_state s outcomes) ≡ false))
-        → (outcomes : List (Outcome R S)) × AreStints stint state outcomes × Fair (last_state state outcomes) × (at_work (last_state state outcomes) ≡ false)
-    go false is on = ([], tt, fair, is)
-    go true is on =
-        let work = more state fair is in
-        let rest = on work.0.next (omega (arith, work.3, low)) work.2 in
-        (work.0 ∷ rest.0, (work.1, rest.1), rest.2, rest.3)

@@ -1,5 +1,5 @@
 -- Each item is answered: no reply to it is the one that says nothing.
-use Rattle.std.proofs.Common.{◌≡◌, ◌⊎◌, refl, ℕ, Bool, true, false, inl, inr, length, List, Option, Some, None, Result, Ok, Err, ap, is_some, nat_lt, subst, sym, ◌∙◌}
+use Rattle.std.proofs.Common.{◌≡◌, ◌⊎◌, refl, ℕ, Bool, true, false, inl, inr, length, List, Option, Some, None, Ok, Err, ap, is_some, nat_lt, subst, sym, ◌∙◌}
 use Rattle.std.specs.List.{flat_map}
 use Rattle.base_types.specs.declared.fraction.Fraction.{Fraction}
 use Rattle.base_types.specs.declared.posting.Posting.{Posting}
@@ -18,8 +18,6 @@ use Rattle.base_commands.specs.declared.text.Text.TheVariants as texts
 use Rattle.text_words.specs.Terms.{one_term}
 use Rattle.query_lang.specs.Chains.{asks_for_any}
 use Rattle.query_lang.specs.Grammar.{Query}
-use Rattle.plans_kinds.specs.declared.proposal.Node.{Node}
-use Rattle.plans_kinds.specs.declared.proposal.Segment.{Segment}
 use Rattle.plans_share.specs.declared.asked.Asking.{Asking}
 use Rattle.journal_entries.specs.declared.entry.Entry.{Entry}
 use Rattle.journal_entries.specs.declared.entry.Entry.TheVariants as entries
@@ -32,7 +30,7 @@ use Rattle.model_archive.specs.Answers.{IsWordList}
 use Rattle.model_archive.specs.Planning.{OfTerm, last_second}
 use Rattle.model_archive.specs.Plans.{plan_of}
 use Rattle.model_archive.specs.Sharing.{IsShared}
-use Rattle.model_archive.specs.Steps.{Reply, Approximated, Refused, RefusedIn, Shared, Silent, Adds, AddsBatch, AddsPlan, Approximates, Bests, BestsBy, Begins, CarriesOut, Cause, Certifies, CertifiesLive, CertifiesPlan, ChoosesPlan, Declines, FindsBy, Idles, IsNoDisjunction, IsReplied, IsRepliedBy, NearsBy, OfIdle, OfStill, Proposes, ProposesPlan, Finishes, Shares, SpansBy, Step, StoresPlan, TakesOn, TopsBy, Works, WorksAt, WorksOn, act_of, arrival_refusal, batch_cause, deletion_refusal, full_journal, in_blocks, mark_refusal, refused_for, spelled_key, stint_pages}
+use Rattle.model_archive.specs.Steps.{Reply, Approximated, Refused, RefusedIn, Shared, Silent, Adds, AddsBatch, AddsPlan, Approximates, Bests, BestsBy, Begins, CarriesOut, Cause, Certifies, CertifiesLive, CertifiesPlan, ChoosesPlan, Declines, FindsBy, Idles, IsNoDisjunction, IsReplied, NearsBy, OfIdle, OfStill, Proposes, ProposesPlan, Finishes, Shares, SpansBy, Step, StoresPlan, TakesOn, TopsBy, Works, WorksAt, WorksOn, act_of, arrival_refusal, batch_cause, deletion_refusal, full_journal, in_blocks, mark_refusal, refused_for, spelled_key, stint_pages}
 use Rattle.model_archive.specs.Worlds.{Job, World, at_work}
 use Rattle.model_archive.proofs.PlanningLemmas.{of_phrase}
 use Rattle.model_archive.proofs.SharingLemmas.{of_phrases}

@@ -68,7 +68,7 @@ use Rattle.model_archive.specs.Plans.{plan_of}
 use Rattle.model_archive.specs.Rough.{IsRoughAnswer}
 use Rattle.model_archive.specs.Sharing.{IsShared, Notes, OfPhrases}
 use Rattle.model_archive.specs.Verifying.{Verifies}
-use Rattle.model_archive.specs.Worlds.{Job, World, taken_in, world_of}
+use Rattle.model_archive.specs.Worlds.{Job, World, taken_in}
 
 -- what an item is answered, or what is said of work that no item asked for
 pub data Reply : Type 0 where

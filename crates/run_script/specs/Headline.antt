@@ -61,8 +61,9 @@ pub record Ends (status : Status) (old new : SourceState) : Type 0 where
 
 -- A pull comes after the replies: no whole item waited for its own. What had been pulled by then is some of the items and a rest that begins with no
 -- whole one; the replies to all of these had been shown, and what was told of the stints behind them.
-pub record ComesAfterReplies {S : Type 0} (step : S → Item → Reply → S → Type 0) (stint : S → Reply → S → Type 0) (working : S → Bool)
-    (state : S) (input : SourceState) (output : SinkState) (items : List Item) (outcomes : List (Outcome Reply S)) (pull : Pull) : Type 0 where
+pub record ComesAfterReplies {S : Type 0} (step : S → Item → Reply → S → Type 0) (stint : S → Reply → S → Type 0)
+    (working : S → Bool) (state : S) (input : SourceState) (output : SinkState) (items : List Item)
+    (outcomes : List (Outcome Reply S)) (pull : Pull) : Type 0 where
   pub pulled : List ℕ
   pub pulled_are : input.left ≡ pulled ++ pull.left
   pub before : List Item

@@ -1,7 +1,5 @@
-use Rattle.std.proofs.Common.{◌≡◌, ◌⊎◌, false, ℕ, ◌+◌, ◌-◌, ◌<◌, ◌≤◌, IsTrue, IsSome, List, [], ◌∷◌, ◌++◌, All, Option, Some, None, true, take, length, inl, refl, ap, sym, subst, ◌∙◌, arith, rules}
-use Rattle.machine_model.specs.States.{DiskState}
+use Rattle.std.proofs.Common.{◌≡◌, false, ◌+◌, ◌-◌, ◌<◌, ◌≤◌, IsTrue, List, ◌++◌, All, Option, Some, None, true, take, length, inl, refl, ap, sym, subst, ◌∙◌, arith}
 use Rattle.machine_model.specs.declared.area.Area.TheVariants.{Journal, Pages}
-use Rattle.journal_gates.specs.Records.{gate_bytes}
 use Rattle.lists_index.specs.Indexes.{state_of}
 use Rattle.pages_area.specs.Caches.{Kept, StandsFor as IsCacheOf}
 use Rattle.pages_area.specs.Runs.{IsTaken}
@@ -13,17 +11,16 @@ use Rattle.model_archive.specs.Stands.{bodies_of}
 use Rattle.model_archive.specs.Steps.{Finished, Refused, Silent}
 use Rattle.archive_plans.specs.Shelves.{extents_all}
 use Rattle.std.proofs.lemmas.Bool.{false≢true}
-use Rattle.base_types.specs.Limits.{limit_of}
 use Rattle.archive_hand.specs.Adding.{IsSpent}
 use Rattle.archive_hand.specs.Changing.{LeadsBy}
-use Rattle.archive_hand.specs.Jobs.{IsWaiting, job_pages, written_of}
+use Rattle.archive_hand.specs.Jobs.{job_pages, written_of}
 use Rattle.archive_hand.specs.States.{ArchiveState, AreInStepBy, CacheStands, IsSound, Reaches}
 use Rattle.archive_hand.specs.Stored.{Store, StoreStint}
 use Rattle.archive_hand.specs.declared.job.Job.{Job}
 use Rattle.archive_hand.proofs.AdvanceLemmas.{cached_at, failed, cached_idle, dropped_sound, dropped_within, failed_sound, failed_spent, failed_within, finished_sound, finished_within, frame_short, last_pages, went_sound, went_within}
 use Rattle.archive_hand.proofs.JobLemmas.{kept_part}
 use Rattle.archive_hand.proofs.StintLemmas.{sound_live, sound_taken, sound_unkept, sound_waits}
-use Rattle.archive_hand.proofs.WorkLemmas.{further, job_taken, stint_done, stint_dropped, stint_keeps, stint_stopped, stint_wrote, went_on}
+use Rattle.archive_hand.proofs.WorkLemmas.{job_taken, stint_done, stint_dropped, stint_keeps, stint_stopped, stint_wrote, went_on}
 use Rattle.archive_hand.proofs.archive.Archive.advance.Goals as goal
 
 pub overflow_sub-job : goal.overflow_sub-job

@@ -1,10 +1,9 @@
-use Rattle.std.proofs.Common.{◌≡◌, ℕ, ◌≤◌, IsTrue, List, ◌++◌, Option, Some, None, ap, refl, sym, subst, ◌∙◌, arith, rules}
+use Rattle.std.proofs.Common.{◌≡◌, ℕ, IsTrue, List, ◌++◌, Option, Some, None, ap, refl, sym, subst, ◌∙◌, arith}
 use Rattle.lists_index.specs.Indexes.{state_of}
 use Rattle.pages_area.specs.Taken.{HasTaken}
 use Rattle.journal_entries.specs.declared.place.Place.{Place}
 use Rattle.pages_sublists.specs.Preparing.{extents}
 use Rattle.model_archive.specs.Steps.{pages_in}
-use Rattle.model_archive.specs.Histories.{History}
 use Rattle.model_archive.specs.Plans.{live_extents}
 use Rattle.archive_entries.specs.declared.error.Declined.TheVariants as declines
 use Rattle.archive_plans.specs.Readying.{IsFull}
