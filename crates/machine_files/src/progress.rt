@@ -13,7 +13,8 @@ const INTERVAL_SECONDS: u64 = 1;
 
 /// How far the work of a machine is: one line on standard error, where that is a terminal.
 ///
-/// Work is what the machine does between two calls of its streams: the load, a check, all of a sample.
+/// Work is what the machine does between two calls of its streams: the load, a check, all of a sample,
+/// a plan, and at the end of a script all that is left of a plan that was begun.
 /// Where a second of it is past at a call of a file, a line says what is read or written, and then
 /// after each second, over the one before. Before the next call of a stream it is cleared, and where
 /// the progress is dropped. Where standard error is no terminal nothing is written, and no clock is
@@ -28,6 +29,8 @@ pub struct Progress<C, E: Eprint> {
     journal_bytes: Cell<u64>,
     /// How many bytes of Pages were read in this work.
     pages_read: Cell<u64>,
+    /// How many bytes of Pages were written in this work.
+    pages_written: Cell<u64>,
     /// When a line last told of this work, or else when it first called a file; none before that.
     told: Cell<Option<Instant>>,
     is_shown: Cell<bool>,
@@ -46,6 +49,7 @@ impl<C: Clock, E: Eprint> Progress<C, E> {
             errors,
             journal_bytes: Cell::new(0),
             pages_read: Cell::new(0),
+            pages_written: Cell::new(0),
             told: Cell::new(None),
             is_shown: Cell::new(false),
         }
@@ -73,13 +77,22 @@ impl<C: Clock, E: Eprint> Progress<C, E> {
         }
     }
 
-    /// Before an area is written up to the place `end`.
-    pub(crate) fn writes(&self, area: Area, end: u64) {
-        if area == Area::Journal {
-            self.reaches(end);
-            if self.is_due() {
-                let bytes = self.journal_bytes.get();
-                self.show(Line::JournalWritten { bytes });
+    /// Before so many bytes of an area are written, from the place `at` on.
+    pub(crate) fn writes(&self, area: Area, at: u64, bytes: usize) {
+        match area {
+            Area::Journal => {
+                self.reaches(at.saturating_add(bytes as u64));
+                if self.is_due() {
+                    let bytes = self.journal_bytes.get();
+                    self.show(Line::JournalWritten { bytes });
+                }
+            }
+            Area::Pages => {
+                let bytes = self.pages_written.get().saturating_add(bytes as u64);
+                self.pages_written.set(bytes);
+                if self.is_due() {
+                    self.show(Line::PagesWritten { bytes });
+                }
             }
         }
     }
@@ -120,6 +133,7 @@ impl<C, E: Eprint> Progress<C, E> {
         self.clear();
         self.told.set(None);
         self.pages_read.set(0);
+        self.pages_written.set(0);
     }
 
     /// Clears the line, where one is shown.
@@ -141,6 +155,7 @@ impl<C: Drop, E: Eprint + Drop> Drop for Progress<C, E> {
             is_terminal: _,
             journal_bytes: _,
             pages_read: _,
+            pages_written: _,
             told: _,
             is_shown: _,
         } = self;
@@ -170,6 +185,8 @@ enum Line {
     JournalWritten { bytes: u64 },
     /// How many bytes of Pages were read.
     PagesRead { bytes: u64 },
+    /// How many bytes of Pages were written.
+    PagesWritten { bytes: u64 },
 }
 
 impl fmt::Display for Line {
@@ -178,6 +195,7 @@ impl fmt::Display for Line {
             Line::JournalRead { percent } => write!(f, "reading the journal, {percent} %"),
             Line::JournalWritten { bytes } => write!(f, "writing the journal, {bytes} bytes"),
             Line::PagesRead { bytes } => write!(f, "reading the pages, {bytes} bytes"),
+            Line::PagesWritten { bytes } => write!(f, "writing the pages, {bytes} bytes"),
         }
     }
 }
@@ -271,7 +289,7 @@ mod tests {
     fn makes<C: Clock, E: Eprint>(progress: &Progress<C, E>, call: Call) {
         match call {
             Call::Reads(area, at) => progress.reads(area, at, 10),
-            Call::Writes(area, end) => progress.writes(area, end),
+            Call::Writes(area, at) => progress.writes(area, at, 10),
             Call::Pulls => progress.ends(),
         }
     }
@@ -311,14 +329,19 @@ mod tests {
             ),
             (8_600, Pulls, "\r\x1b[K"),
             (60_000, Pulls, ""),
-            (61_000, Writes(Journal, 17), ""),
+            (61_000, Writes(Journal, 7), ""),
             (61_500, Writes(Pages, 4_096), ""),
             (
                 62_000,
-                Writes(Journal, 250),
+                Writes(Journal, 240),
                 "\r\x1b[Ktt_archive: writing the journal, 250 bytes",
             ),
-            (62_500, Pulls, "\r\x1b[K"),
+            (
+                63_000,
+                Writes(Pages, 8_192),
+                "\r\x1b[Ktt_archive: writing the pages, 20 bytes",
+            ),
+            (63_200, Pulls, "\r\x1b[K"),
             (63_500, Reads(Journal, 240), ""),
             (
                 64_500,

@@ -42,8 +42,7 @@ impl<F: FileExt, C: Clock, E: Eprint> FileExt for WatchedFile<'_, F, C, E> {
 
     fn write_at(&self, buf: &[u8], offset: u64) -> io::Result<usize> {
         if let Some(area) = self.area {
-            let end = offset.saturating_add(buf.len() as u64);
-            self.progress.writes(area, end);
+            self.progress.writes(area, offset, buf.len());
         }
         self.file.write_at(buf, offset)
     }
