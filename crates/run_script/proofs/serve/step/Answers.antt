@@ -1,10 +1,11 @@
 use Rattle.std.proofs.Common.{List, [], Ok, Err, ap}
 use Rattle.std.proofs.lemmas.List.{append-nil}
 use Rattle.machine_model.specs.Pulls.{Pull}
-use Rattle.machine_model.specs.States.{MachineState, SourceState, state_by}
+use Rattle.machine_model.specs.States.{DiskState, MachineState, SourceState, state_by}
 use Rattle.model_archive.specs.Standing.{last_state}
 use Rattle.archive_hand.specs.States.{AreInStepBy}
 use Rattle.archive_hand.specs.Stored.{Store}
+use Rattle.run_script.specs.Outcomes.{CanGoOn}
 use Rattle.run_script.specs.Serving.{Gives, Pulling, Serving, pulls_beside}
 use Rattle.run_script.proofs.PullLemmas.{early_behind, early_undone, ends_by, passes_one, pulling_next, spoils_one, stops_early}
 use Rattle.run_script.proofs.ServeLemmas.{ended_by, gone_over_early, serving_next, stopped}
@@ -74,16 +75,21 @@ returns-in-Err-carry_on-clause-goes_on g c = λ source_tells sink_tells disk_tel
 pub returns-in-Ok-carry_on-clause-left : goal.returns-in-Ok-carry_on-clause-left
 returns-in-Ok-carry_on-clause-left g c = rw c.next_item.ensures.disk at c.in-Ok-carry_on.ensures.left
 
+-- taking an item leaves the disk
+kept : (g : Over) (c : After-next_item g) (P : DiskState → Type 0) → P (g.M.Disk.disk c.args.machine.now) → P (g.M.Disk.disk c.next_item.new.machine)
+kept g c P so = rw c.next_item.ensures.disk so
+
 -- where the input is gone over the archive can go on, and at an item no run ends so
 pub returns-in-Err-clause-ready : goal.returns-in-Err-clause-ready
-returns-in-Err-clause-ready g c = λ is. rw c.next_item.ensures.disk c.requires.ready
+returns-in-Err-clause-ready g c = λ is.
+    kept g (goal.at.returns-in-Err-clause-ready g c).After-next_item (λ d. CanGoOn c.args.archive.now d.reach) c.requires.ready
 
 pub returns-in-Err-carry_on-clause-ready : goal.returns-in-Err-carry_on-clause-ready
 returns-in-Err-carry_on-clause-ready g c = λ is. absurd (early_undone c.from.result (stops_early c.from.result c.in-Err-carry_on.stop c.from.ensures) is)
 
 -- what is stored where the item was taken
 taken : (g : Over) (c : After-next_item g) (s : Store) → AreInStepBy (g.M.Disk.disk c.args.machine.now) c.args.archive.now s → AreInStepBy (g.M.Disk.disk c.next_item.new.machine) c.args.archive.now s
-taken g c s in_step = rw c.next_item.ensures.disk in_step
+taken g c s in_step = kept g c (λ d. AreInStepBy d c.args.archive.now s) in_step
 
 pub returns-in-Err-clause-passes : goal.returns-in-Err-clause-passes
 returns-in-Err-clause-passes g c = λ disk_tells s in_step d is. absurd (c.in-Err.ensures.undamaged d (ap Err is))
@@ -96,4 +102,4 @@ returns-in-Ok-carry_on-clause-passes g c = λ disk_tells s in_step.
 pub returns-in-Err-carry_on-clause-passes : goal.returns-in-Err-carry_on-clause-passes
 returns-in-Err-carry_on-clause-passes g c = λ disk_tells s in_step.
     let at = goal.at.returns-in-Err-carry_on-clause-passes g c in
-    spoils_one _ s c.in-Ok.item c.from.result c.in-Err-carry_on.stop _ c.carry_on.new.archive _ _ _ c.next_item.new.reader c.from.ensures (c.in-Err-carry_on.ensures.passes disk_tells s (taken g at.After-next_item s in_step)) (given g at.After-carry_on)
+    spoils_one _ s c.in-Ok.item c.from.result c.in-Err-carry_on.stop _ at.After-carry_on.carry_on.new.archive _ _ _ c.next_item.new.reader c.from.ensures (c.in-Err-carry_on.ensures.passes disk_tells s (taken g at.After-next_item s in_step)) (given g at.After-carry_on)
