@@ -13,10 +13,14 @@ ghost use Rattle.journal_gates.specs.Spelled.{EachSpells, Spells};
 ghost use Rattle.run_words.specs.Words.{AreNoWords, AreWords, texts};
 ghost use Rattle.run_words.specs.declared.task.Task.{Task as PlainTask};
 ghost use Rattle.run_words.specs.declared.task.Task.TheVariants as tasks;
+ghost use Rattle.run_words.specs.declared.task.FirstEntry.{FirstEntry as PlainFirst};
 ghost use Rattle.run_words.specs.declared.task.SampleNumbers.{SampleNumbers as PlainNumbers};
+ghost use Rattle.run_follow.specs.Exporting.{Exported};
+ghost use Rattle.run_script.specs.Statuses.{EndsExport};
 ghost use Rattle.run_script.specs.Headline.{Ends, EndsSpoiled, IsComplete, IsLoadedFrom, LoadsAs, ReadingRun, StandingRun, store_of};
 ghost use Rattle.run_script.specs.Sampling.{EndsSample, Sampled};
 
+use crate::exporting::run_export;
 use crate::sampling::run_sample;
 use crate::script::run_script;
 use crate::status::Status;
@@ -55,7 +59,8 @@ fn task_of(alloc: Global, words: &[String]) -> Result<Task, Status>
 /// Where the words ask for the script, `run` loads the archive from the machine's disk and carries out
 /// the items of its source one after another. It shows each reply whole before it pulls more input.
 /// Where they ask for a sample, `run` carries out the sample's commands on an archive without entries,
-/// and shows two lines about them. The first event that ends the run decides the status.
+/// and shows two lines about them. Where they ask for an export, it shows the archive's entries as packets.
+/// The first event that ends the run decides the status.
 /// `docs/claims.md` says in words what each clause promises, and under which premises.
 ///
 /// Costs the length of the journal once, and for each command what its call of the archive costs.
@@ -136,6 +141,18 @@ pub fn run<M: Machine>(alloc: Global, words: &[String], machine: &mut M) -> Stat
         (Rose (M.disk machine.old).faults (M.disk machine.new).faults → ⊥) →
         (Rose (M.sink machine.old).faults (M.sink machine.new).faults → ⊥) →
         (result ≡ Status.Done) ⊎ (result ≡ Status.Memory) }
+    // With the words of an export nothing is pulled; a front of the export is shown, all of it at status 0, and each image left at any moment stands
+    // for the history that it is of. Where nothing is wrong, all is shown, unless memory runs out.
+    ensures export_ends { (first : PlainFirst) → AreWords (texts words.now) (tasks.Export first) →
+        EndsExport result × (M.source machine.new ≡ M.source machine.old) }
+    ensures exported { M.sink_tells → M.disk_tells → (first : PlainFirst) → AreWords (texts words.now) (tasks.Export first)
+        → (h : History) → Stands h (M.disk machine.old).holds →
+        Exported h first.number (result ≡ Status.Done) (M.sink machine.old) (M.sink machine.new) (M.disk machine.old) (M.disk machine.new) }
+    ensures export_complete { M.disk_tells → (first : PlainFirst) → AreWords (texts words.now) (tasks.Export first)
+        → (h : History) → Stands h (M.disk machine.old).holds →
+        (Rose (M.disk machine.old).faults (M.disk machine.new).faults → ⊥) →
+        (Rose (M.sink machine.old).faults (M.sink machine.new).faults → ⊥) →
+        (result ≡ Status.Done) ⊎ (result ≡ Status.Memory) }
 {
     let task = match task_of(alloc, words) {
         Ok(task) => task,
@@ -144,5 +161,6 @@ pub fn run<M: Machine>(alloc: Global, words: &[String], machine: &mut M) -> Stat
     match task {
         Task::Script => run_script(alloc, machine),
         Task::Generate(numbers) => run_sample(alloc, machine, numbers),
+        Task::Export(first) => run_export(alloc, machine, first),
     }
 }

@@ -1,0 +1,3 @@
+mod BesideLemmas
+mod PacketLemmas
+pub mod ExportLemmas
