@@ -21,7 +21,8 @@ use Rattle.model_follow.specs.Following.{Note, Follows, BeginWith, CannotBeTaken
 
 -- A packet has room for each entry that may come after a history, whatever is asked of plans.
 abbrev pub SpellingsHaveRoom : Type 0
-SpellingsHaveRoom = (before : History) (entry : Entry) → IsEntry entry → entry_refusal before entry ≡ None → length (spelling entry) ≤ most_body
+SpellingsHaveRoom = (before : History) (entry : Entry) → IsEntry entry → entry_refusal before entry ≡ None
+    → length (spelling entry) ≤ most_body
 
 -- A history that can be followed is legal.
 abbrev pub FollowedAreLegal : Type 0

@@ -9,7 +9,7 @@ use Rattle.machine_model.specs.Pushes.{IsPrefix, IsSameBeside, OnlyShows}
 use Rattle.machine_model.specs.States.{DiskState, moment}
 use Rattle.machine_model.proofs.MomentLemmas.{allowed_left, goes_on_joins, goes_on_reads, joined, since_now}
 
-prefix_join : (s t u : List ℕ) → IsPrefix s t → IsPrefix t u → IsPrefix s u
+pub prefix_join : (s t u : List ℕ) → IsPrefix s t → IsPrefix t u → IsPrefix s u
 prefix_join s t u one more = (one.0 ++ more.0, more.1 ∙ ap (λ (l : List ℕ). l ++ more.0) one.1 ∙ append_assoc s one.0 more.0)
 
 pub same_prefix : (s t : List ℕ) → s ≡ t → IsPrefix s t

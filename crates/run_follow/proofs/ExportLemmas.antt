@@ -8,10 +8,8 @@ use Rattle.std.proofs.lemmas.List.Elements.{All-nil, All-cons, All-head, All-tai
 use Rattle.std.proofs.lemmas.Option.{slice_get_cases}
 use Rattle.machine_model.specs.Areas.{Bytes}
 use Rattle.machine_model.specs.Calls.{OnlyReads}
-use Rattle.machine_model.specs.Moments.{GoesOn, LeavesOnly}
 use Rattle.machine_model.specs.Pushes.{IsPrefix, OnlyShows}
 use Rattle.machine_model.specs.States.{DiskState, SinkState}
-use Rattle.machine_model.proofs.MomentLemmas.{goes_on_joins, joined}
 use Rattle.journal_gates.specs.declared.head.Head.{Head}
 use Rattle.journal_gates.specs.Records.{first_gate}
 use Rattle.journal_gates.proofs.HeadLemmas.{length_heads}
@@ -22,9 +20,9 @@ use Rattle.journal_packets.specs.Streams.{export, stream}
 use Rattle.plans_kinds.specs.Plans.{IsFitFor}
 use Rattle.model_archive.specs.Histories.{History}
 use Rattle.model_archive.specs.Legal.{EachMayCome}
-use Rattle.model_archive.specs.Stands.{EachStands, Stands, bodies_of}
+use Rattle.model_archive.specs.Stands.{bodies_of}
 use Rattle.model_follow.specs.Laws.{SpellingsHaveRoom}
-use Rattle.run_follow.specs.Exporting.{Exported, Shows, ShowsPacket}
+use Rattle.run_follow.specs.Exporting.{Shows, ShowsPacket}
 use Rattle.run_follow.proofs.BesideLemmas.{reads_show, shows_join}
 use Rattle.run_follow.proofs.PacketLemmas.{export_all, export_front, export_more, none_yet}
 
@@ -179,42 +177,4 @@ shows_none all from done output output_now old new reads beside same never = rec
   front = (stream (export from all), refl);
   whole = λ well. absurd (never well);
   beside = subst (λ (s : SinkState). OnlyShows old new output.shown s.shown) (sym same) (reads_show old new output.shown reads beside);
-}
-
--- ---- a whole export
-
--- nothing was shown, since the archive wasn't loaded
-pub not_exported : (h : History) (from : ℕ) (done : Type 0) (output output_now : SinkState) (old new : DiskState) → (done → ⊥) → output_now ≡ output → GoesOn old new
-    → (EachStands old h → LeavesOnly old new (λ image beside. Stands h image)) → Exported h from done output output_now old new
-not_exported h from done output output_now old new never same on keeps = record {
-  shown = [];
-  shown_is = ap (λ (s : SinkState). s.shown) same ∙ sym (append-nil output.shown);
-  front = (stream (export from (bodies_of h)), refl);
-  whole = λ well. absurd (never well);
-  goes_on = on;
-  images = keeps;
-}
-
--- it was loaded, and then only read and shown
-pub is_exported : (h : History) (from : ℕ) (done : Type 0) (output output_now : SinkState) (old loaded new : DiskState) → GoesOn old loaded → (EachStands old h → LeavesOnly old loaded (λ image beside. Stands h image))
-    → EachStands loaded h → Shows (bodies_of h) from done output output_now loaded new → Exported h from done output output_now old new
-is_exported h from done output output_now old loaded new on keeps each shows = record {
-  shown = shows.shown;
-  shown_is = shows.shown_is;
-  front = shows.front;
-  whole = shows.whole;
-  goes_on = goes_on_joins on shows.beside.goes_on;
-  images = λ start. joined (λ image beside. Stands h image) on (keeps start) shows.beside.goes_on
-      (λ image beside left. each image (shows.beside.since image beside left).0);
-}
-
--- the same, where less is said to be done
-pub exported_as : (h : History) (from : ℕ) (done other : Type 0) (output output_now : SinkState) (old new : DiskState) → (other → done) → Exported h from done output output_now old new → Exported h from other output output_now old new
-exported_as h from done other output output_now old new so e = record {
-  shown = e.shown;
-  shown_is = e.shown_is;
-  front = e.front;
-  whole = λ well. e.whole (so well);
-  goes_on = e.goes_on;
-  images = e.images;
 }

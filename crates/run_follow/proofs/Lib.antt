@@ -1,3 +1,3 @@
-mod BesideLemmas
+pub mod BesideLemmas
 mod PacketLemmas
-pub mod ExportLemmas
+mod ExportLemmas

@@ -1,6 +1,5 @@
--- What an export is: the packets of a history's entries from one on are shown.
+-- What an export of a loaded journal is: the packets of its entries from one on are shown.
 use Rattle.std.specs.Prelude.{◌≡◌, ℕ, ◌+◌, ◌-◌, List, ◌++◌, length, slice_get, Some}
-use Rattle.machine_model.specs.Moments.{GoesOn, LeavesOnly}
 use Rattle.machine_model.specs.Pushes.{IsPrefix, OnlyShows}
 use Rattle.machine_model.specs.States.{DiskState, SinkState}
 use Rattle.journal_gates.specs.Records.{front}
@@ -9,7 +8,7 @@ use Rattle.journal_packets.specs.Packets.{packet_bytes}
 use Rattle.journal_packets.specs.Streams.{export, stream}
 use Rattle.model_archive.specs.Histories.{History}
 use Rattle.model_archive.specs.Legal.{IsLoadable}
-use Rattle.model_archive.specs.Stands.{EachStands, Stands, bodies_of}
+use Rattle.model_archive.specs.Stands.{bodies_of}
 
 -- The bytes of a journal, which was loaded up to this end, are those of a history that a load accepts.
 pub record IsJournalOf (history : History) (journal : List ℕ) (end : ℕ) : Type 0 where
@@ -36,14 +35,3 @@ pub record ShowsPacket (all : List (List ℕ)) (number : ℕ) (done : Type 0) (o
   pub front : IsPrefix shown (packet_bytes number body)
   pub whole : done → shown ≡ packet_bytes number body
   pub beside : OnlyShows old new output.shown output_now.shown
-
--- ---- a whole run, the load in front of it too
-
--- A front of the export of a history is shown, and all of it where this holds, that it is done. Each image left since stands for the history.
-pub record Exported (history : History) (from : ℕ) (done : Type 0) (output output_now : SinkState) (old new : DiskState) : Type 0 where
-  pub shown : List ℕ
-  pub shown_is : output_now.shown ≡ output.shown ++ shown
-  pub front : IsPrefix shown (stream (export from (bodies_of history)))
-  pub whole : done → shown ≡ stream (export from (bodies_of history))
-  pub goes_on : GoesOn old new
-  pub images : EachStands old history → LeavesOnly old new (λ image beside. Stands history image)

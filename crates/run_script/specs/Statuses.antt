@@ -87,15 +87,6 @@ status_of_export exports.Sink = Sink
 status_of_export (exports.NotArchive at) = NotArchive at
 status_of_export exports.Memory = Memory
 
--- the statuses with which an export may end
-abbrev pub EndsExport : Status → Type 0
-EndsExport Done = Unit {0}
-EndsExport Disk = Unit {0}
-EndsExport Sink = Unit {0}
-EndsExport (NotArchive at) = Unit {0}
-EndsExport Memory = Unit {0}
-EndsExport other = ⊥
-
 -- how a run ends where there is no archive
 abbrev pub status_of_load : LoadError → Status
 status_of_load loads.Failed = Disk

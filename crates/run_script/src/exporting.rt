@@ -3,9 +3,9 @@ ghost use Rattle.std.specs.Prelude.{◌≡◌, ◌⊎◌, ℕ};
 ghost use Rattle.machine_model.specs.Calls.{Syncs};
 ghost use Rattle.machine_model.specs.Causes.{Rose};
 ghost use Rattle.model_archive.specs.Histories.{History};
-ghost use Rattle.model_archive.specs.Stands.{IsNotArchive, Stands};
-ghost use Rattle.run_follow.specs.Exporting.{Exported};
-ghost use Rattle.run_script.specs.Statuses.{EndsExport};
+ghost use Rattle.model_archive.specs.Stands.{IsNotArchive};
+ghost use Rattle.run_script.specs.Exporting.{EndsExport, Exported, LeavesAlone};
+ghost use Rattle.run_script.specs.Headline.{IsLoadedFrom, LoadsAs};
 
 use crate::status::Status;
 use archive_hand::Archive;
@@ -26,9 +26,12 @@ pub(crate) fn run_export<M: Machine>(alloc: Global, machine: &mut M, first: Firs
         (result ≡ Status.NotArchive at) ⊎ ((result ≡ Status.Disk) ⊎ (result ≡ Status.Memory)) }
     ensures left_alone { M.disk_tells → (at : ℕ) → IsNotArchive (M.disk machine.old).holds at →
         (M.sink machine.new ≡ M.sink machine.old) × Syncs (M.disk machine.old) (M.disk machine.new) }
-    ensures exported { M.sink_tells → M.disk_tells → (h : History) → Stands h (M.disk machine.old).holds →
-        Exported h first.number (result ≡ Status.Done) (M.sink machine.old) (M.sink machine.new) (M.disk machine.old) (M.disk machine.new) }
-    ensures complete { M.disk_tells → (h : History) → Stands h (M.disk machine.old).holds →
+    ensures loaded { M.disk_tells → IsLoadedFrom (M.disk machine.old).holds result }
+    ensures exported { M.sink_tells → M.disk_tells → (h : History) → LoadsAs h (M.disk machine.old).holds →
+        Exported h first.number result (M.sink machine.old) (M.sink machine.new) (M.disk machine.old) (M.disk machine.new) }
+    ensures spared { M.sink_tells → M.disk_tells →
+        LeavesAlone (M.disk machine.old) (M.disk machine.new) (M.sink machine.old).shown (M.sink machine.new).shown }
+    ensures complete { M.disk_tells → ((at : ℕ) → IsNotArchive (M.disk machine.old).holds at → ⊥) →
         (Rose (M.disk machine.old).faults (M.disk machine.new).faults → ⊥) →
         (Rose (M.sink machine.old).faults (M.sink machine.new).faults → ⊥) →
         (result ≡ Status.Done) ⊎ (result ≡ Status.Memory) }

@@ -15,8 +15,7 @@ ghost use Rattle.run_words.specs.declared.task.Task.{Task as PlainTask};
 ghost use Rattle.run_words.specs.declared.task.Task.TheVariants as tasks;
 ghost use Rattle.run_words.specs.declared.task.FirstEntry.{FirstEntry as PlainFirst};
 ghost use Rattle.run_words.specs.declared.task.SampleNumbers.{SampleNumbers as PlainNumbers};
-ghost use Rattle.run_follow.specs.Exporting.{Exported};
-ghost use Rattle.run_script.specs.Statuses.{EndsExport};
+ghost use Rattle.run_script.specs.Exporting.{EndsExport, Exported, LeavesAlone};
 ghost use Rattle.run_script.specs.Headline.{Ends, EndsSpoiled, IsComplete, IsLoadedFrom, LoadsAs, ReadingRun, StandingRun, store_of};
 ghost use Rattle.run_script.specs.Sampling.{EndsSample, Sampled};
 
@@ -141,15 +140,23 @@ pub fn run<M: Machine>(alloc: Global, words: &[String], machine: &mut M) -> Stat
         (Rose (M.disk machine.old).faults (M.disk machine.new).faults → ⊥) →
         (Rose (M.sink machine.old).faults (M.sink machine.new).faults → ⊥) →
         (result ≡ Status.Done) ⊎ (result ≡ Status.Memory) }
-    // With the words of an export nothing is pulled; a front of the export is shown, all of it at status 0, and each image left at any moment stands
-    // for the history that it is of. Where nothing is wrong, all is shown, unless memory runs out.
-    ensures export_ends { (first : PlainFirst) → AreWords (texts words.now) (tasks.Export first) →
-        EndsExport result × (M.source machine.new ≡ M.source machine.old) }
+    // With the words of an export nothing is pulled, and no status speaks of the input.
+    ensures export_ends { (first : PlainFirst) → AreWords (texts words.now) (tasks.Export first) → EndsExport result }
+    ensures export_unpulled { (first : PlainFirst) → AreWords (texts words.now) (tasks.Export first)
+        → M.source machine.new ≡ M.source machine.old }
+    // Unless the bytes were refused, the disk failed or memory ran out, a load took them for a history's. A front of that history's packets from the
+    // entry of this number on is shown, and at status 0 all of them, and what is shown is in each image that a stop may leave from then on.
+    ensures export_loaded { M.disk_tells → (first : PlainFirst) → AreWords (texts words.now) (tasks.Export first)
+        → IsLoadedFrom (M.disk machine.old).holds result }
     ensures exported { M.sink_tells → M.disk_tells → (first : PlainFirst) → AreWords (texts words.now) (tasks.Export first)
-        → (h : History) → Stands h (M.disk machine.old).holds →
-        Exported h first.number (result ≡ Status.Done) (M.sink machine.old) (M.sink machine.new) (M.disk machine.old) (M.disk machine.new) }
-    ensures export_complete { M.disk_tells → (first : PlainFirst) → AreWords (texts words.now) (tasks.Export first)
-        → (h : History) → Stands h (M.disk machine.old).holds →
+        → (h : History) → LoadsAs h (M.disk machine.old).holds →
+        Exported h first.number result (M.sink machine.old) (M.sink machine.new) (M.disk machine.old) (M.disk machine.new) }
+    // Whatever the disk holds, nothing of the archive is written, but that a journal which is new is begun.
+    ensures export_spared { M.sink_tells → M.disk_tells → (first : PlainFirst) → AreWords (texts words.now) (tasks.Export first) →
+        LeavesAlone (M.disk machine.old) (M.disk machine.new) (M.sink machine.old).shown (M.sink machine.new).shown }
+    // Where nothing is wrong, all is shown, unless memory runs out.
+    ensures export_complete { M.disk_tells → (first : PlainFirst) → AreWords (texts words.now) (tasks.Export first) →
+        ((at : ℕ) → IsNotArchive (M.disk machine.old).holds at → ⊥) →
         (Rose (M.disk machine.old).faults (M.disk machine.new).faults → ⊥) →
         (Rose (M.sink machine.old).faults (M.sink machine.new).faults → ⊥) →
         (result ≡ Status.Done) ⊎ (result ≡ Status.Memory) }

@@ -1,8 +1,9 @@
 //! What `--export FROM` shows.
-use machine_mem::{CallKind, Fault};
+use machine_mem::{CallKind, Fault, MemMachine};
 use machine_model::Image;
 use rows_rig::{
     RowError, copy_image, expect_same, first_disk, machine_on, new_disk, read_image, run_with,
+    whole_images,
 };
 use run_script::Status;
 use std::alloc::Global;
@@ -42,19 +43,29 @@ fn packets_of(alloc: Global, journal: &[u8], from: u64) -> Result<Vec<u8>, RowEr
     Ok(packets)
 }
 
-/// A run with these words on a disk, with some calls that fail: how it ends, what it shows, and what it
-/// leaves.
+/// A run with these words on a disk, with some calls that fail: how it ends, and the machine behind it.
 fn run_words(
     alloc: Global,
     disk: &Image,
     words: &[&str],
     faults: &[Fault],
-) -> Result<(Status, Vec<u8>, Image), RowError> {
+) -> Result<(Status, MemMachine), RowError> {
     let mut machine = machine_on(alloc, b"find 10 red\n", copy_image(alloc, disk)?, faults)?;
     let status = run_with(alloc, words, &mut machine)?;
-    let shown = Vec::from_slice(alloc, machine.shown())?;
-    let left = read_image(alloc, &mut machine)?;
-    Ok((status, shown, left))
+    Ok((status, machine))
+}
+
+/// Each image that a stop may leave at any moment of a run is the disk as it was.
+fn expect_kept(
+    alloc: Global,
+    row: usize,
+    machine: &MemMachine,
+    disk: &Image,
+) -> Result<(), RowError> {
+    for image in &whole_images(alloc, machine)? {
+        expect_same(row, image, disk)?;
+    }
+    Ok(())
 }
 
 /// With these words a run on a disk ends well, shows this, and leaves the disk as it was.
@@ -65,14 +76,16 @@ fn expect_export(
     words: &[&str],
     packets: &[u8],
 ) -> Result<(), RowError> {
-    let (status, shown, left) = run_words(alloc, disk, words, &[])?;
+    let (status, mut machine) = run_words(alloc, disk, words, &[])?;
     if status != Status::Done {
         return Err(RowError::Status { row, status });
     }
-    if shown.as_slice() != packets {
+    if machine.shown() != packets {
+        let shown = Vec::from_slice(alloc, machine.shown())?;
         return Err(RowError::Replies { row, shown });
     }
-    expect_same(row, &left, disk)
+    expect_kept(alloc, row, &machine, disk)?;
+    expect_same(row, &read_image(alloc, &mut machine)?, disk)
 }
 
 // Four changes and a plan of three segments: 14 + 14 + 13 + 13 + 181 bytes, and 12 in front of each.
@@ -104,12 +117,16 @@ fn an_export_shows_each_entry_from_a_number_on(rt: HostRuntime) -> Result<(), Ro
 #[test]
 fn an_archive_without_entries_shows_nothing(rt: HostRuntime) -> Result<(), RowError> {
     let alloc = rt.alloc();
-    let (status, shown, left) = run_words(alloc, &new_disk(alloc), &["--export", "1"], &[])?;
+    let (status, mut machine) = run_words(alloc, &new_disk(alloc), &["--export", "1"], &[])?;
+    let begun = read_image(alloc, &mut machine)?;
     assert_eq!(rt; status, Status::Done);
-    assert!(rt; shown.is_empty());
-    assert_eq!(rt; left.journal.len(), 17);
-    assert!(rt; left.pages.is_empty());
-    expect_export(alloc, 0, &left, &["--export", "1"], b"")
+    assert!(rt; machine.shown().is_empty());
+    assert_eq!(rt; begun.journal.as_slice(), b"TIMETRAVELTEXT\0\x01\0");
+    assert!(rt; begun.pages.is_empty());
+    let (status, mut machine) = run_words(alloc, &begun, &["--export", "1"], &[])?;
+    assert_eq!(rt; status, Status::Done);
+    assert!(rt; machine.shown().is_empty());
+    expect_same(0, &read_image(alloc, &mut machine)?, &begun)
 }
 
 #[test]
@@ -125,11 +142,12 @@ fn words_that_ask_for_no_export_touch_nothing(rt: HostRuntime) -> Result<(), Row
         &["--export", "1", "--generate", "1", "--count", "1"],
     ];
     for (row, words) in rows.iter().enumerate() {
-        let (status, shown, left) = run_words(alloc, &new_disk(alloc), words, &[])?;
+        let (status, mut machine) = run_words(alloc, &new_disk(alloc), words, &[])?;
         if status != Status::Usage {
             return Err(RowError::Status { row, status });
         }
-        if !shown.is_empty() || !left.journal.is_empty() {
+        let left = read_image(alloc, &mut machine)?;
+        if !machine.shown().is_empty() || !left.journal.is_empty() {
             return Err(RowError::Touched { row });
         }
     }
@@ -141,10 +159,10 @@ fn a_journal_that_is_no_archives_is_told(rt: HostRuntime) -> Result<(), RowError
     let alloc = rt.alloc();
     let mut disk = first_disk(alloc)?;
     disk.journal[3] = b'x';
-    let (status, shown, left) = run_words(alloc, &disk, &["--export", "1"], &[])?;
+    let (status, machine) = run_words(alloc, &disk, &["--export", "1"], &[])?;
     assert_eq!(rt; status, Status::NotArchive { at: 3 });
-    assert!(rt; shown.is_empty());
-    expect_same(0, &left, &disk)
+    assert!(rt; machine.shown().is_empty());
+    expect_kept(alloc, 0, &machine, &disk)
 }
 
 /// How an export ends where a call of this kind fails.
@@ -156,8 +174,8 @@ fn status_of(call: CallKind) -> Status {
     }
 }
 
-/// Lets each call of this kind fail in turn: a front of the packets is shown, and the disk stays. It
-/// answers how many such calls there are.
+/// Lets each call of this kind fail in turn: a front of the packets is shown, and the disk stays at each
+/// moment. It answers how many such calls there are.
 fn fail_each(alloc: Global, disk: &Image, packets: &[u8], call: CallKind) -> Result<u64, RowError> {
     for nth in 1..100 {
         let fault = Fault {
@@ -166,15 +184,16 @@ fn fail_each(alloc: Global, disk: &Image, packets: &[u8], call: CallKind) -> Res
             landed: 0,
         };
         let row = nth as usize;
-        let (status, shown, left) = run_words(alloc, disk, &["--export", "1"], &[fault])?;
-        expect_same(row, &left, disk)?;
+        let (status, machine) = run_words(alloc, disk, &["--export", "1"], &[fault])?;
+        expect_kept(alloc, row, &machine, disk)?;
         if status == Status::Done {
             return Ok(nth - 1);
         }
         if status != status_of(call) {
             return Err(RowError::Status { row, status });
         }
-        if !packets.starts_with(&shown) || shown.as_slice() == packets {
+        if !packets.starts_with(machine.shown()) || machine.shown() == packets {
+            let shown = Vec::from_slice(alloc, machine.shown())?;
             return Err(RowError::Replies { row, shown });
         }
     }
