@@ -121,7 +121,7 @@ fn an_archive_without_entries_shows_nothing(rt: HostRuntime) -> Result<(), RowEr
     let begun = read_image(alloc, &mut machine)?;
     assert_eq!(rt; status, Status::Done);
     assert!(rt; machine.shown().is_empty());
-    assert_eq!(rt; begun.journal.as_slice(), b"TIMETRAVELTEXT\0\x01\0");
+    assert!(rt; begun.journal.as_slice() == b"TIMETRAVELTEXT\0\x01\0".as_slice());
     assert!(rt; begun.pages.is_empty());
     let (status, mut machine) = run_words(alloc, &begun, &["--export", "1"], &[])?;
     assert_eq!(rt; status, Status::Done);

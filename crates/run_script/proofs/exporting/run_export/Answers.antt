@@ -1,12 +1,75 @@
-use Rattle.std.proofs.Common.{◌≡◌, Ok, Err, refl, inl, inr, ap, sym, ◌∙◌}
-use Rattle.run_follow.proofs.ExportLemmas.{exported_as}
+use Rattle.std.proofs.Common.{◌≡◌, ◌×◌, IsOk, Err, refl, inl, inr, ap, subst, ◌∙◌, arith}
+use Rattle.machine_model.specs.Causes.{Rose}
+use Rattle.journal_gates.specs.Spelled.{EachSpells}
+use Rattle.model_archive.specs.Histories.{History}
+use Rattle.model_archive.specs.Stands.{bodies_of}
+use Rattle.model_archive.proofs.StandsLemmas.{not_archive_once}
+use Rattle.run_follow.specs.Exporting.{IsJournalOf}
+use Rattle.run_script.specs.Exporting.{Exported, LeavesAlone}
+use Rattle.run_script.specs.Headline.{LoadsAs}
+use Rattle.run_script.specs.declared.status.Status.{Status}
 use Rattle.run_script.specs.declared.status.Status.TheVariants.{Done}
+use Rattle.run_script.proofs.ExportLemmas.{TellsExport, is_exported, load_spares, load_tells, loaded_journal, not_exported, shows_spares, tells_export}
+use Rattle.run_script.proofs.ServeLemmas.{IsUndone, load_completes, load_fails, load_refused, load_undone, loads_found, synced_if_refused}
+use Rattle.run_script.proofs.exporting.run_export.Given.{Over}
+use Rattle.run_script.proofs.exporting.run_export.Goals.{After-export, After-load}
 use Rattle.run_script.proofs.exporting.run_export.Goals as goal
 
-pub returns-in-Ok-clause-exported : goal.returns-in-Ok-clause-exported
-returns-in-Ok-clause-exported g c = λ sink_tells disk_tells h stands.
-    exported_as h c.args.first.number _ _ _ _ _ _ (λ well. tt) (c.in-Ok.ensures.exported sink_tells disk_tells h stands)
+-- ---- the archive wasn't loaded
 
-pub returns-clause-exported : goal.returns-clause-exported
-returns-clause-exported g c = λ sink_tells disk_tells h stands.
-    exported_as h c.args.first.number _ _ _ _ _ _ ? (c.in-Err.ensures.exported sink_tells disk_tells h stands)
+pub returns-in-Err-clause-ends : goal.returns-in-Err-clause-ends
+returns-in-Err-clause-ends g c = load_tells c.from.result c.in-Err.error c.from.ensures
+
+pub returns-in-Err-clause-refused : goal.returns-in-Err-clause-refused
+returns-in-Err-clause-refused g c = λ disk_tells at refused.
+    load_refused c.from.result c.in-Err.error at c.from.ensures (λ place is. not_archive_once (g.M.Disk.disk c.args.machine.now).holds place at (c.in-Err.ensures.not_archive disk_tells place (ap Err is)) refused)
+
+pub returns-in-Err-clause-left_alone : goal.returns-in-Err-clause-left_alone
+returns-in-Err-clause-left_alone g c = λ disk_tells at refused.
+    ((g.met.M.Machine.disk_alone _ _ c.load.ensures.only).1, synced_if_refused (g.M.Disk.disk c.args.machine.now) (g.M.Disk.disk c.load.new.disk) at refused (c.in-Err.ensures.longer disk_tells))
+
+pub returns-in-Err-clause-loaded : goal.returns-in-Err-clause-loaded
+returns-in-Err-clause-loaded g c = λ disk_tells. load_fails c.from.result c.in-Err.error (g.M.Disk.disk c.args.machine.now).holds c.from.ensures
+
+pub returns-in-Err-clause-exported : goal.returns-in-Err-clause-exported
+returns-in-Err-clause-exported g c = λ sink_tells disk_tells h begins.
+    let m = c.args.machine.now in
+    not_exported h c.args.first.number c.from.result _ _ (g.M.Disk.disk m) (g.M.Disk.disk c.load.new.disk) (λ is. subst IsUndone is (load_undone c.from.result c.in-Err.error c.from.ensures))
+    (g.met.M.Machine.beside_shown m sink_tells disk_tells) (g.met.M.Machine.disk_alone m c.load.new.disk c.load.ensures.only).1 (c.load.ensures.pages disk_tells) (c.load.ensures.kept disk_tells (bodies_of h)) (c.load.ensures.crash disk_tells h)
+
+-- a load leaves alone what there is
+spared : (g : Over) (c : After-load g) → g.M.Sink.sink_tells → g.M.Disk.disk_tells
+    → LeavesAlone (g.M.Disk.disk c.args.machine.now) (g.M.Disk.disk c.load.new.disk) (g.M.Sink.sink c.args.machine.now).shown (g.M.Sink.sink c.args.machine.now).shown
+spared g c sink_tells disk_tells =
+    let m = c.args.machine.now in
+    load_spares (g.M.Disk.disk m) (g.M.Disk.disk c.load.new.disk) (g.M.Sink.sink m).shown (g.M.Sink.sink m).shown (g.met.M.Machine.beside_shown m sink_tells disk_tells) refl (c.load.ensures.pages disk_tells) (c.load.ensures.longer disk_tells)
+
+pub returns-in-Err-clause-spared : goal.returns-in-Err-clause-spared
+returns-in-Err-clause-spared g c = λ sink_tells disk_tells.
+    let m = c.args.machine.now in
+    load_spares (g.M.Disk.disk m) (g.M.Disk.disk c.load.new.disk) _ _ (g.met.M.Machine.beside_shown m sink_tells disk_tells) (ap (λ (s : _). s.shown) (g.met.M.Machine.disk_alone m c.load.new.disk c.load.ensures.only).1)
+    (c.load.ensures.pages disk_tells) (c.load.ensures.longer disk_tells)
+
+pub returns-in-Err-clause-complete : goal.returns-in-Err-clause-complete
+returns-in-Err-clause-complete g c = λ disk_tells archive disk sink.
+    inr (load_completes c.from.result c.in-Err.error c.from.ensures (λ is. disk (c.in-Err.ensures.failed (ap Err is))) (λ at is. archive at (c.in-Err.ensures.not_archive disk_tells at (ap Err is))))
+
+-- ---- it was loaded
+
+-- the journal behind the load is that of the history for which it took the bytes
+loaded : (g : Over) (c : After-export g) → g.M.Disk.disk_tells → (h : History) → LoadsAs h (g.M.Disk.disk c.args.machine.now).holds
+    → IsJournalOf h (g.M.Disk.disk c.load.new.disk).holds.journal c.in-Ok.archive.end × EachSpells (g.M.Disk.disk c.load.new.disk) (bodies_of h)
+loaded g c disk_tells h begins =
+    let n = c.load.new.disk in
+    loaded_journal h (g.M.Disk.disk c.args.machine.now) (g.M.Disk.disk n) c.in-Ok.archive (g.met.M.Disk.holds_allowed n disk_tells) (c.in-Ok.ensures.by_reads disk_tells) begins
+
+-- what was shown behind it
+exported : (g : Over) (c : After-export g) (status : Status) → (status ≡ Done → IsOk c.export.result) → g.M.Sink.sink_tells → g.M.Disk.disk_tells → (h : History) → LoadsAs h (g.M.Disk.disk c.args.machine.now).holds
+    → Exported h c.args.first.number status (g.M.Sink.sink c.args.machine.now) (g.M.Sink.sink c.export.new.machine) (g.M.Disk.disk c.args.machine.now) (g.M.Disk.disk c.export.new.machine)
+exported g c status well sink_tells disk_tells h begins =
+    let m = c.args.machine.now in
+    let n = c.load.new.disk in
+    let is = loaded g c disk_tells h begins in
+    is_exported h c.args.first.number status (IsOk c.export.result) (g.M.Sink.sink m) (g.M.Sink.sink n) (g.M.Sink.sink c.export.new.machine) (g.M.Disk.disk m) (g.M.Disk.disk n) (g.M.Disk.disk c.export.new.machine) well
+    (g.met.M.Machine.beside_shown m sink_tells disk_tells) (g.met.M.Machine.disk_alone m n c.load.ensures.only).1 (c.load.ensures.pages disk_tells) (c.load.ensures.kept disk_tells (bodies_of h)) (c.load.ensures.crash disk_tells h)
+    is.1 (c.export.ensures.shows sink_tells disk_tells h (rw c.journal.ensures is.0))
