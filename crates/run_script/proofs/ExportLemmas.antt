@@ -134,7 +134,6 @@ pub is_exported : (h : History) (from : ℕ) (status : Status) (done : Type 0) (
 is_exported h from status done output between output_now old mid new well is same pages bodies keeps each shows =
     let s : Shows (bodies_of h) from done output output_now mid new = subst (λ (t : SinkState). Shows (bodies_of h) from done t output_now mid new) same shows in
     let since = s.beside.since in
-    let was : (image : Bytes) → MayLeave mid.now image → _ = λ image allowed. allowed_left mid (moment old) image allowed in
     record {
       shown = s.shown;
       shown_is = s.shown_is;
@@ -146,7 +145,7 @@ is_exported h from status done output between output_now old mid new well is sam
       spelled = λ start. joined (λ image beside. Spells image.journal (bodies_of h)) pages.goes_on (λ image beside left. ((bodies start).images image beside left).0) s.beside.goes_on
           (λ image beside left. each image (since image beside left).0);
       images = λ start. joined (λ image beside. Stands h image) pages.goes_on (λ image beside left. ((keeps start).images image beside left).0) s.beside.goes_on
-          (λ image beside left. ((keeps start).images image mid.now.beside (was image (since image beside left).0)).0);
+          (λ image beside left. ((keeps start).images image mid.now.beside (allowed_left mid (moment old) image (since image beside left).0)).0);
     }
 
 -- ---- what was loaded
