@@ -24,7 +24,7 @@ use Rattle.model_archive.specs.Stands.{bodies_of}
 use Rattle.model_follow.specs.Laws.{SpellingsHaveRoom}
 use Rattle.run_follow.specs.Exporting.{Shows, ShowsPacket}
 use Rattle.run_follow.proofs.BesideLemmas.{reads_show, shows_join}
-use Rattle.run_follow.proofs.PacketLemmas.{export_all, export_front, export_more, none_yet}
+use Rattle.run_follow.proofs.PacketLemmas.{export_all, export_front, export_more}
 
 -- a packet has room for each entry of a history that loads
 pub all_short : SpellingsHaveRoom → (before h : History) → EachMayCome IsFitFor before h → All (λ (body : List ℕ). length body ≤ most_body) (bodies_of h)
@@ -111,12 +111,6 @@ pub record Showing (all : List (List ℕ)) (from place : ℕ) (output output_now
   pub shown_is : output_now.shown ≡ output.shown ++ stream (take (place - (from - 1)) (export from all))
   pub beside : OnlyShows old now output.shown output_now.shown
 
-pub showing_none : (all : List (List ℕ)) (from : ℕ) (output : SinkState) (d : DiskState) → OnlyShows d d output.shown output.shown → Showing all from (from - 1) output output d d
-showing_none all from output d still = record {
-  shown_is = sym (append-nil output.shown) ∙ ap (λ (ps : _). output.shown ++ stream ps) (sym (none_yet from all));
-  beside = still;
-}
-
 pub showing_more : (all : List (List ℕ)) (from place : ℕ) (output mid output_now : SinkState) (old now next : DiskState) → from ≤ place + 1 → Showing all from place output mid old now
     → (done : Type 0) → done → ShowsPacket all (place + 1) done mid output_now now next → Showing all from (place + 1) output output_now old next
 showing_more all from place output mid output_now old now next begun before done well one =
@@ -167,14 +161,3 @@ shows_behind all from done output between output_now old mid new reads beside sa
       whole = s.whole;
       beside = shows_join old mid new output.shown output.shown output_now.shown (reads_show old mid output.shown reads beside) s.beside;
     }
-
--- reads alone, and nothing was shown
-pub shows_none : (all : List (List ℕ)) (from : ℕ) (done : Type 0) (output output_now : SinkState) (old new : DiskState) → OnlyReads old new → old.now.beside ≡ output.shown → output_now ≡ output
-    → (done → ⊥) → Shows all from done output output_now old new
-shows_none all from done output output_now old new reads beside same never = record {
-  shown = [];
-  shown_is = ap (λ (s : SinkState). s.shown) same ∙ sym (append-nil output.shown);
-  front = (stream (export from all), refl);
-  whole = λ well. absurd (never well);
-  beside = subst (λ (s : SinkState). OnlyShows old new output.shown s.shown) (sym same) (reads_show old new output.shown reads beside);
-}

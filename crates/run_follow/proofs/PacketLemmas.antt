@@ -63,8 +63,3 @@ export_front from all place body part begun is front =
 pub export_all : (from : ℕ) (all : List (List ℕ)) (place : ℕ) → length all ≤ place → take (place - (from - 1)) (export from all) ≡ export from all
 export_all from all place past =
     take_all (place - (from - 1)) (export from all) (omega (arith, past, length-drop (from - 1) (numbered 1 all), length_numbered 1 all))
-
-pub none_yet : (from : ℕ) (all : List (List ℕ)) → take (from - 1 - (from - 1)) (export from all) ≡ []
-none_yet from all =
-    let e : from - 1 - (from - 1) ≡ 0 = omega arith in
-    ap (λ (m : ℕ). take m (export from all)) e
