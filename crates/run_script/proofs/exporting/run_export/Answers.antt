@@ -1,3 +1,4 @@
+use Rattle.std.specs.Result.{is_ok}
 use Rattle.std.proofs.Common.{◌≡◌, ℕ, IsOk, Err, refl, inl, inr, ap, subst, ◌∙◌, arith}
 use Rattle.machine_model.specs.Causes.{Rose}
 use Rattle.machine_model.specs.Pushes.{OnlyShows}
@@ -115,47 +116,47 @@ returns-in-Ok-export-clause-loaded g c = λ disk_tells. let found = c.in-Ok.ensu
 
 pub returns-in-Ok-export-clause-exported : goal.returns-in-Ok-export-clause-exported
 returns-in-Ok-export-clause-exported g c = λ sink_tells disk_tells h begins.
-    exported g (goal.at.returns-in-Ok-export-clause-exported g c).After-export Done (λ is. refl) sink_tells disk_tells h begins
+    exported g (goal.at.returns-in-Ok-export-clause-exported g c).After-export Done (λ is. ap is_ok c.in-Ok-export.is) sink_tells disk_tells h begins
 
 pub returns-in-Ok-export-clause-spared : goal.returns-in-Ok-export-clause-spared
 returns-in-Ok-export-clause-spared g c = λ sink_tells disk_tells. kept g (goal.at.returns-in-Ok-export-clause-spared g c).After-export sink_tells disk_tells
 
-pub returns-in-Err-export-clause-source : goal.returns-in-Err-export-clause-source
-returns-in-Err-export-clause-source g c = source g (goal.at.returns-in-Err-export-clause-source g c).After-export
+pub returns-clause-source : goal.returns-clause-source
+returns-clause-source g c = source g (goal.at.returns-clause-source g c).After-export
 
-pub returns-in-Err-export-clause-ends : goal.returns-in-Err-export-clause-ends
-returns-in-Err-export-clause-ends g c = (tells_export c.from-in-Err-export.result c.in-Err-export.error c.from-in-Err-export.ensures).ends
+pub returns-clause-ends : goal.returns-clause-ends
+returns-clause-ends g c = (tells_export c.from-in-Err-export.result c.in-Err-export.error c.from-in-Err-export.ensures).ends
 
-pub returns-in-Err-export-clause-disk_fault : goal.returns-in-Err-export-clause-disk_fault
-returns-in-Err-export-clause-disk_fault g c = λ is.
-    disk_rose g (goal.at.returns-in-Err-export-clause-disk_fault g c).After-export (ap Err ((tells_export c.from-in-Err-export.result c.in-Err-export.error c.from-in-Err-export.ensures).disk is))
+pub returns-clause-disk_fault : goal.returns-clause-disk_fault
+returns-clause-disk_fault g c = λ is.
+    disk_rose g (goal.at.returns-clause-disk_fault g c).After-export (c.in-Err-export.is ∙ ap Err ((tells_export c.from-in-Err-export.result c.in-Err-export.error c.from-in-Err-export.ensures).disk is))
 
-pub returns-in-Err-export-clause-sink_fault : goal.returns-in-Err-export-clause-sink_fault
-returns-in-Err-export-clause-sink_fault g c = λ is.
-    sink_rose g (goal.at.returns-in-Err-export-clause-sink_fault g c).After-export (ap Err ((tells_export c.from-in-Err-export.result c.in-Err-export.error c.from-in-Err-export.ensures).sink is))
+pub returns-clause-sink_fault : goal.returns-clause-sink_fault
+returns-clause-sink_fault g c = λ is.
+    sink_rose g (goal.at.returns-clause-sink_fault g c).After-export (c.in-Err-export.is ∙ ap Err ((tells_export c.from-in-Err-export.result c.in-Err-export.error c.from-in-Err-export.ensures).sink is))
 
-pub returns-in-Err-export-clause-not_archive : goal.returns-in-Err-export-clause-not_archive
-returns-in-Err-export-clause-not_archive g c = λ disk_tells at is.
-    absurd (never g (goal.at.returns-in-Err-export-clause-not_archive g c).After-export disk_tells at (ap Err ((tells_export c.from-in-Err-export.result c.in-Err-export.error c.from-in-Err-export.ensures).archive at is)))
+pub returns-clause-not_archive : goal.returns-clause-not_archive
+returns-clause-not_archive g c = λ disk_tells at is.
+    absurd (never g (goal.at.returns-clause-not_archive g c).After-export disk_tells at (c.in-Err-export.is ∙ ap Err ((tells_export c.from-in-Err-export.result c.in-Err-export.error c.from-in-Err-export.ensures).archive at is)))
 
-pub returns-in-Err-export-clause-refused : goal.returns-in-Err-export-clause-refused
-returns-in-Err-export-clause-refused g c = λ disk_tells at refused. absurd (c.in-Ok.ensures.exact disk_tells at refused)
+pub returns-clause-refused : goal.returns-clause-refused
+returns-clause-refused g c = λ disk_tells at refused. absurd (c.in-Ok.ensures.exact disk_tells at refused)
 
-pub returns-in-Err-export-clause-left_alone : goal.returns-in-Err-export-clause-left_alone
-returns-in-Err-export-clause-left_alone g c = λ disk_tells at refused. absurd (c.in-Ok.ensures.exact disk_tells at refused)
+pub returns-clause-left_alone : goal.returns-clause-left_alone
+returns-clause-left_alone g c = λ disk_tells at refused. absurd (c.in-Ok.ensures.exact disk_tells at refused)
 
-pub returns-in-Err-export-clause-loaded : goal.returns-in-Err-export-clause-loaded
-returns-in-Err-export-clause-loaded g c = λ disk_tells. let found = c.in-Ok.ensures.by_reads disk_tells in inl (found.0.history, loads_found (g.M.Disk.disk c.args.machine.now) found)
+pub returns-clause-loaded : goal.returns-clause-loaded
+returns-clause-loaded g c = λ disk_tells. let found = c.in-Ok.ensures.by_reads disk_tells in inl (found.0.history, loads_found (g.M.Disk.disk c.args.machine.now) found)
 
-pub returns-in-Err-export-clause-exported : goal.returns-in-Err-export-clause-exported
-returns-in-Err-export-clause-exported g c = λ sink_tells disk_tells h begins.
-    exported g (goal.at.returns-in-Err-export-clause-exported g c).After-export c.from-in-Err-export.result (λ is. absurd ((tells_export c.from-in-Err-export.result c.in-Err-export.error c.from-in-Err-export.ensures).undone is))
+pub returns-clause-exported : goal.returns-clause-exported
+returns-clause-exported g c = λ sink_tells disk_tells h begins.
+    exported g (goal.at.returns-clause-exported g c).After-export c.from-in-Err-export.result (λ is. absurd ((tells_export c.from-in-Err-export.result c.in-Err-export.error c.from-in-Err-export.ensures).undone is))
     sink_tells disk_tells h begins
 
-pub returns-in-Err-export-clause-spared : goal.returns-in-Err-export-clause-spared
-returns-in-Err-export-clause-spared g c = λ sink_tells disk_tells. kept g (goal.at.returns-in-Err-export-clause-spared g c).After-export sink_tells disk_tells
+pub returns-clause-spared : goal.returns-clause-spared
+returns-clause-spared g c = λ sink_tells disk_tells. kept g (goal.at.returns-clause-spared g c).After-export sink_tells disk_tells
 
-pub returns-in-Err-export-clause-complete : goal.returns-in-Err-export-clause-complete
-returns-in-Err-export-clause-complete g c = λ disk_tells archive disk sink.
-    let here = (goal.at.returns-in-Err-export-clause-complete g c).After-export in
-    inr ((tells_export c.from-in-Err-export.result c.in-Err-export.error c.from-in-Err-export.ensures).memory (λ is. disk (disk_rose g here (ap Err is))) (λ is. sink (sink_rose g here (ap Err is))) (λ at is. never g here disk_tells at (ap Err is)))
+pub returns-clause-complete : goal.returns-clause-complete
+returns-clause-complete g c = λ disk_tells archive disk sink.
+    let here = (goal.at.returns-clause-complete g c).After-export in
+    inr ((tells_export c.from-in-Err-export.result c.in-Err-export.error c.from-in-Err-export.ensures).memory (λ is. disk (disk_rose g here (c.in-Err-export.is ∙ ap Err is))) (λ is. sink (sink_rose g here (c.in-Err-export.is ∙ ap Err is))) (λ at is. never g here disk_tells at (c.in-Err-export.is ∙ ap Err is)))
