@@ -4,3 +4,4 @@ mod PullLemmas
 mod SampleLemmas
 mod ServeLemmas
 mod StandingLemmas
+mod ExportLemmas

@@ -4,3 +4,4 @@ pub mod Serving
 pub mod Statuses
 pub mod Outcomes
 pub mod Sampling
+pub mod Exporting

@@ -5,6 +5,8 @@ use Rattle.script_read.specs.declared.error.ScriptError.{ScriptError}
 use Rattle.script_read.specs.declared.error.ScriptError.TheVariants as errors
 use Rattle.archive_entries.specs.declared.error.LoadError.{LoadError}
 use Rattle.archive_entries.specs.declared.error.LoadError.TheVariants as loads
+use Rattle.run_follow.specs.declared.error.ExportError.{ExportError}
+use Rattle.run_follow.specs.declared.error.ExportError.TheVariants as exports
 use Rattle.run_sample.specs.declared.error.FillError.{FillError}
 use Rattle.run_sample.specs.declared.error.FillError.TheVariants as fills
 use Rattle.pages_sublists.specs.declared.why.Why.{Why}
@@ -41,7 +43,7 @@ why_text Bare = codes "bare"
 -- the line, without its end
 abbrev pub status_text : Status → List ℕ
 status_text Done = codes "tt_archive: done"
-status_text Usage = codes "tt_archive: usage: tt_archive [--generate SEED --count COUNT]"
+status_text Usage = codes "tt_archive: usage: tt_archive [--generate SEED --count COUNT | --export FROM]"
 status_text (NotArchive at) = codes "tt_archive: not an archive at byte " ++ decimal at ++ codes " of the journal"
 status_text Disk = codes "tt_archive: disk fault"
 status_text Source = codes "tt_archive: source fault"
@@ -77,6 +79,13 @@ abbrev pub status_of_fill : FillError → Status
 status_of_fill fills.Failed = Disk
 status_of_fill (fills.Damaged damage) = Damaged damage
 status_of_fill fills.Memory = Memory
+
+-- how a run ends in which not all entries were shown
+abbrev pub status_of_export : ExportError → Status
+status_of_export exports.Disk = Disk
+status_of_export exports.Sink = Sink
+status_of_export (exports.NotArchive at) = NotArchive at
+status_of_export exports.Memory = Memory
 
 -- how a run ends where there is no archive
 abbrev pub status_of_load : LoadError → Status

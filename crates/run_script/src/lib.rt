@@ -10,6 +10,7 @@
 mod answer;
 mod carry_out;
 mod desk;
+mod exporting;
 mod program;
 mod sampling;
 mod script;

@@ -13,10 +13,13 @@ ghost use Rattle.journal_gates.specs.Spelled.{EachSpells, Spells};
 ghost use Rattle.run_words.specs.Words.{AreNoWords, AreWords, texts};
 ghost use Rattle.run_words.specs.declared.task.Task.{Task as PlainTask};
 ghost use Rattle.run_words.specs.declared.task.Task.TheVariants as tasks;
+ghost use Rattle.run_words.specs.declared.task.FirstEntry.{FirstEntry as PlainFirst};
 ghost use Rattle.run_words.specs.declared.task.SampleNumbers.{SampleNumbers as PlainNumbers};
+ghost use Rattle.run_script.specs.Exporting.{EndsExport, Exported, LeavesAlone};
 ghost use Rattle.run_script.specs.Headline.{Ends, EndsSpoiled, IsComplete, IsLoadedFrom, LoadsAs, ReadingRun, StandingRun, store_of};
 ghost use Rattle.run_script.specs.Sampling.{EndsSample, Sampled};
 
+use crate::exporting::run_export;
 use crate::sampling::run_sample;
 use crate::script::run_script;
 use crate::status::Status;
@@ -55,7 +58,8 @@ fn task_of(alloc: Global, words: &[String]) -> Result<Task, Status>
 /// Where the words ask for the script, `run` loads the archive from the machine's disk and carries out
 /// the items of its source one after another. It shows each reply whole before it pulls more input.
 /// Where they ask for a sample, `run` carries out the sample's commands on an archive without entries,
-/// and shows two lines about them. The first event that ends the run decides the status.
+/// and shows two lines about them. Where they ask for an export, it shows the archive's entries as packets.
+/// The first event that ends the run decides the status.
 /// `docs/claims.md` says in words what each clause promises, and under which premises.
 ///
 /// Costs the length of the journal once, and for each command what its call of the archive costs.
@@ -136,6 +140,26 @@ pub fn run<M: Machine>(alloc: Global, words: &[String], machine: &mut M) -> Stat
         (Rose (M.disk machine.old).faults (M.disk machine.new).faults → ⊥) →
         (Rose (M.sink machine.old).faults (M.sink machine.new).faults → ⊥) →
         (result ≡ Status.Done) ⊎ (result ≡ Status.Memory) }
+    // With the words of an export nothing is pulled, and no status speaks of the input.
+    ensures export_ends { (first : PlainFirst) → AreWords (texts words.now) (tasks.Export first) → EndsExport result }
+    ensures export_unpulled { (first : PlainFirst) → AreWords (texts words.now) (tasks.Export first)
+        → M.source machine.new ≡ M.source machine.old }
+    // Unless the bytes were refused, the disk failed or memory ran out, a load took them for a history's. A front of that history's packets from the
+    // entry of this number on is shown, and at status 0 all of them, and what is shown is in each image that a stop may leave from then on.
+    ensures export_loaded { M.disk_tells → (first : PlainFirst) → AreWords (texts words.now) (tasks.Export first)
+        → IsLoadedFrom (M.disk machine.old).holds result }
+    ensures exported { M.sink_tells → M.disk_tells → (first : PlainFirst) → AreWords (texts words.now) (tasks.Export first)
+        → (h : History) → LoadsAs h (M.disk machine.old).holds →
+        Exported h first.number result (M.sink machine.old) (M.sink machine.new) (M.disk machine.old) (M.disk machine.new) }
+    // Whatever the disk holds, nothing of the archive is written, but that a journal which is new is begun.
+    ensures export_spared { M.sink_tells → M.disk_tells → (first : PlainFirst) → AreWords (texts words.now) (tasks.Export first) →
+        LeavesAlone (M.disk machine.old) (M.disk machine.new) (M.sink machine.old).shown (M.sink machine.new).shown }
+    // Where nothing is wrong, all is shown, unless memory runs out.
+    ensures export_complete { M.disk_tells → (first : PlainFirst) → AreWords (texts words.now) (tasks.Export first) →
+        ((at : ℕ) → IsNotArchive (M.disk machine.old).holds at → ⊥) →
+        (Rose (M.disk machine.old).faults (M.disk machine.new).faults → ⊥) →
+        (Rose (M.sink machine.old).faults (M.sink machine.new).faults → ⊥) →
+        (result ≡ Status.Done) ⊎ (result ≡ Status.Memory) }
 {
     let task = match task_of(alloc, words) {
         Ok(task) => task,
@@ -144,5 +168,6 @@ pub fn run<M: Machine>(alloc: Global, words: &[String], machine: &mut M) -> Stat
     match task {
         Task::Script => run_script(alloc, machine),
         Task::Generate(numbers) => run_sample(alloc, machine, numbers),
+        Task::Export(first) => run_export(alloc, machine, first),
     }
 }

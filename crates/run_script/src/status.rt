@@ -1,10 +1,11 @@
 //! How a run ends.
 ghost use Rattle.std.specs.Prelude.{◌≡◌};
-ghost use Rattle.run_script.specs.Statuses.{code_of, status_of_fill, status_of_load, status_of_script, status_of_stop, why_text};
+ghost use Rattle.run_script.specs.Statuses.{code_of, status_of_export, status_of_fill, status_of_load, status_of_script, status_of_stop, why_text};
 
 use crate::stop::Stop;
 use archive_hand::LoadError;
 use pages_sublists::{Damage, Why};
+use run_follow::ExportError;
 use run_sample::FillError;
 use script_read::ScriptError;
 use std::fmt;
@@ -103,6 +104,19 @@ impl From<FillError> for Status {
     }
 }
 
+impl From<ExportError> for Status {
+    ghost from_gives = { λ error status. status ≡ status_of_export error };
+
+    fn from(error: ExportError) -> Status {
+        match error {
+            ExportError::Disk => Status::Disk,
+            ExportError::Sink => Status::Sink,
+            ExportError::NotArchive { at } => Status::NotArchive { at },
+            ExportError::Memory => Status::Memory,
+        }
+    }
+}
+
 impl From<Stop> for Status {
     ghost from_gives = { λ stop status. status ≡ status_of_stop stop };
 
@@ -127,7 +141,7 @@ impl fmt::Display for Status {
             Status::Done => write!(f, "tt_archive: done"),
             Status::Usage => write!(
                 f,
-                "tt_archive: usage: tt_archive [--generate SEED --count COUNT]"
+                "tt_archive: usage: tt_archive [--generate SEED --count COUNT | --export FROM]"
             ),
             Status::NotArchive { at } => {
                 write!(f, "tt_archive: not an archive at byte {at} of the journal")

@@ -9,13 +9,14 @@ use Rattle.std.specs.Str.Parse.{digits_value}
 use Rattle.std.proofs.lemmas.Bool.{cases_lt, cases_Bool}
 use Rattle.clap.specs.Words.{Kinds, Text, fault_of}
 use Rattle.run_words.specs.Numbers.{WritesNumber}
+use Rattle.run_words.specs.declared.task.FirstEntry.{FirstEntry}
 use Rattle.run_words.specs.declared.task.SampleNumbers.{SampleNumbers}
 use Rattle.run_words.specs.declared.task.Task.{Task}
-use Rattle.run_words.specs.declared.task.Task.TheVariants.{Script, Generate}
+use Rattle.run_words.specs.declared.task.Task.TheVariants.{Script, Generate, Export}
 use Rattle.run_words.specs.Words.{AreNoWords, AreTaken, AreWords, AskFor, command, given}
 use Rattle.run_words.specs.Laws.{WordsAskForOneThing, WordsAskOrDoNot}
 use Rattle.run_words.proofs.NumberLemmas.{below}
-use Rattle.run_words.proofs.ReadLemmas.{no_sample}
+use Rattle.run_words.proofs.ReadLemmas.{no_entry, no_sample, some_none}
 
 -- ---- one thing at most
 
@@ -36,14 +37,22 @@ none_given : (value : Option Text) (n : ℕ) → value ≡ None → IsSomeAnd va
 none_given (Some text) n e a = cc
 none_given None n e a = a
 
-one_task : (seed count : Option Text) (one other : Task) → AskFor seed count one → AskFor seed count other → one ≡ other
-one_task seed count Script Script a b = refl
-one_task seed count Script (Generate sample) a b = absurd (none_given seed sample.seed a.0 b.0)
-one_task seed count (Generate sample) Script a b = absurd (none_given seed sample.seed b.0 a.0)
-one_task seed count (Generate one) (Generate other) a b = ap Generate (one_sample one other (one_number seed _ _ a.0 b.0) (one_number count _ _ a.1 b.1))
+one_entry : (one other : FirstEntry) → one.number ≡ other.number → one ≡ other
+one_entry one other numbers = λ i. record { number = numbers i; some = is_prop→PathP (λ j. 1 ≤ numbers j) (λ j. le_prop) one.some other.some i }
+
+one_task : (seed count from : Option Text) (one other : Task) → AskFor seed count from one → AskFor seed count from other → one ≡ other
+one_task seed count from Script Script a b = refl
+one_task seed count from Script (Generate sample) a b = absurd (none_given seed sample.seed a.0 b.0)
+one_task seed count from Script (Export first) a b = absurd (none_given from first.number a.2 b.2)
+one_task seed count from (Generate sample) Script a b = absurd (none_given seed sample.seed b.0 a.0)
+one_task seed count from (Generate one) (Generate other) a b = ap Generate (one_sample one other (one_number seed _ _ a.0 b.0) (one_number count _ _ a.1 b.1))
+one_task seed count from (Generate sample) (Export first) a b = absurd (none_given seed sample.seed b.0 a.0)
+one_task seed count from (Export first) Script a b = absurd (none_given from first.number b.2 a.2)
+one_task seed count from (Export first) (Generate sample) a b = absurd (none_given seed sample.seed a.0 b.0)
+one_task seed count from (Export one) (Export other) a b = ap Export (one_entry one other (one_number from _ _ a.2 b.2))
 
 pub one_thing : WordsAskForOneThing
-one_thing words one other a b = one_task (given (codes "generate") words) (given (codes "count") words) one other a.1 b.1
+one_thing words one other a b = one_task (given (codes "generate") words) (given (codes "count") words) (given (codes "export") words) one other a.1 b.1
 
 -- ---- one or none
 
@@ -59,10 +68,10 @@ number_or_none text = elim (cases_Bool (list_all is_ascii_digit text)) [
   ]
 ]
 
-abbrev Asks : Option Text → Option Text → Type 0
-Asks seed count = ((task : Task) × AskFor seed count task) ⊎ ((task : Task) → AskFor seed count task → ⊥)
+abbrev Asks : Option Text → Option Text → Option Text → Type 0
+Asks seed count from = ((task : Task) × AskFor seed count from task) ⊎ ((task : Task) → AskFor seed count from task → ⊥)
 
-sample_or_none : (s n : Text) → Asks (Some s) (Some n)
+sample_or_none : (s n : Text) → Asks (Some s) (Some n) None
 sample_or_none s n = elim (number_or_none s) [
   | inr never ↦ inr (no_sample s n (λ sample w v. never sample.seed w))
   | inl seed ↦ elim (number_or_none n) [
@@ -71,26 +80,45 @@ sample_or_none s n = elim (number_or_none s) [
       | inr low ↦ inr (no_sample s n (λ sample w v. omega (arith, sample.not_empty, v.value, count.1.value)))
       | inl some ↦ elim (cases_lt 100000 count.0) [
         | inl high ↦ inr (no_sample s n (λ sample w v. omega (arith, sample.at_most, v.value, count.1.value)))
-        | inr within ↦ inl (Generate (record { seed = seed.0; count = count.0; nineteen_digits = below s seed.0 seed.1; not_empty = omega arith; at_most = omega arith }), (seed.1, count.1))
+        | inr within ↦ inl (Generate (record { seed = seed.0; count = count.0; nineteen_digits = below s seed.0 seed.1; not_empty = omega arith; at_most = omega arith }), (seed.1, count.1, refl))
       ]
     ]
   ]
 ]
 
--- one value alone asks for nothing
-pub seed_alone : (seed : Text) (task : Task) → AskFor (Some seed) None task → ⊥
-seed_alone seed Script (e, _) = cc
-seed_alone seed (Generate sample) h = h.1
+entry_or_none : (f : Text) → Asks None None (Some f)
+entry_or_none f = elim (number_or_none f) [
+  | inr never ↦ inr (no_entry f (λ first w. never first.number w))
+  | inl number ↦ elim (cases_lt 0 number.0) [
+    | inr low ↦ inr (no_entry f (λ first w. omega (arith, first.some, w.value, number.1.value, low)))
+    | inl some ↦ inl (Export (record { number = number.0; some = omega (arith, some) }), (refl, refl, number.1))
+  ]
+]
 
-pub count_alone : (count : Text) (task : Task) → AskFor None (Some count) task → ⊥
-count_alone count Script (_, e) = cc
-count_alone count (Generate sample) h = h.0
+-- one value of a sample alone asks for nothing
+pub seed_alone : (seed : Text) (from : Option Text) (task : Task) → AskFor (Some seed) None from task → ⊥
+seed_alone seed from Script h = some_none seed h.0
+seed_alone seed from (Generate sample) h = h.1
+seed_alone seed from (Export first) h = some_none seed h.0
 
-asks_or_not : (seed count : Option Text) → Asks seed count
-asks_or_not None None = inl (Script, (refl, refl))
-asks_or_not (Some s) (Some n) = sample_or_none s n
-asks_or_not None (Some n) = inr (count_alone n)
-asks_or_not (Some s) None = inr (seed_alone s)
+pub count_alone : (count : Text) (from : Option Text) (task : Task) → AskFor None (Some count) from task → ⊥
+count_alone count from Script h = some_none count h.1
+count_alone count from (Generate sample) h = h.0
+count_alone count from (Export first) h = some_none count h.1
+
+-- and an export's beside a sample's too
+both_tasks : (seed count from : Text) (task : Task) → AskFor (Some seed) (Some count) (Some from) task → ⊥
+both_tasks seed count from Script h = some_none seed h.0
+both_tasks seed count from (Generate sample) h = some_none from h.2
+both_tasks seed count from (Export first) h = some_none seed h.0
+
+asks_or_not : (seed count from : Option Text) → Asks seed count from
+asks_or_not None None None = inl (Script, (refl, refl, refl))
+asks_or_not None None (Some f) = entry_or_none f
+asks_or_not (Some s) (Some n) None = sample_or_none s n
+asks_or_not (Some s) (Some n) (Some f) = inr (both_tasks s n f)
+asks_or_not None (Some n) from = inr (count_alone n from)
+asks_or_not (Some s) None from = inr (seed_alone s from)
 
 pub ask_or_not : WordsAskOrDoNot
 unfolding AreTaken
@@ -98,7 +126,7 @@ ask_or_not words = go (fault_of command words) refl
   where
     go : (kinds : Kinds) → fault_of command words ≡ kinds → ((task : Task) × AreWords words task) ⊎ AreNoWords words
     go (k ∷ ks) e = inr (λ task w. let bad : [] ≡ k ∷ ks = sym w.0 ∙ e in cc)
-    go [] e = elim (asks_or_not (given (codes "generate") words) (given (codes "count") words)) [
+    go [] e = elim (asks_or_not (given (codes "generate") words) (given (codes "count") words) (given (codes "export") words)) [
       | inl found ↦ inl (found.0, (e, found.1))
       | inr none ↦ inr (λ task w. none task w.1)
     ]

@@ -7,9 +7,10 @@ use Rattle.clap.proofs.OnLiterals.{clap_on_literals}
 use Rattle.clap.proofs.WalkLemmas.{first_value-rows}
 use Rattle.run_words.specs.Words.{AreNoWords, AreTaken, AreWords, AskFor, command, given}
 use Rattle.run_words.specs.Numbers.{WritesNumber}
+use Rattle.run_words.specs.declared.task.FirstEntry.{FirstEntry}
 use Rattle.run_words.specs.declared.task.SampleNumbers.{SampleNumbers}
 use Rattle.run_words.specs.declared.task.Task.{Task}
-use Rattle.run_words.specs.declared.task.Task.TheVariants.{Script, Generate}
+use Rattle.run_words.specs.declared.task.Task.TheVariants.{Script, Generate, Export}
 use Rattle.run_words.specs.declared.error.WordsError.{WordsError}
 use Rattle.run_words.specs.declared.error.WordsError.TheVariants.{Memory, Refused}
 use Rattle.run_words.specs.Errors.{error_of_kind}
@@ -55,7 +56,7 @@ not_taken a words error (Err x) is h why e = λ task w. go (subst (λ (y : App).
 
 -- what the values of words that are taken ask for is what the words do
 abbrev Asked : List Text → Task → Type 0
-Asked words = AskFor (given (codes "generate") words) (given (codes "count") words)
+Asked words = AskFor (given (codes "generate") words) (given (codes "count") words) (given (codes "export") words)
 
 module _ (words : List Text) (taken : AreTaken words) where
   pub read : (found : Option Task) (r : Result Task WordsError) → r ≡ ok_or found Refused → IfSome found (Asked words) → IfOk r (AreWords words)
@@ -66,7 +67,17 @@ module _ (words : List Text) (taken : AreTaken words) where
   refused (Some task) r is h e = absurd (let bad : Ok task ≡ Err Refused = sym is ∙ e in cc)
   refused None r is h e = λ task w. h task w.1
 
+pub some_none : {X : Type 0} (x : X) → Some x ≡ None → ⊥
+some_none x e = cc
+
 -- values that write no sample's numbers ask for nothing
-pub no_sample : (s n : Text) → ((sample : SampleNumbers) → WritesNumber s sample.seed → WritesNumber n sample.count → ⊥) → (task : Task) → AskFor (Some s) (Some n) task → ⊥
-no_sample s n none Script (e, _) = cc
+pub no_sample : (s n : Text) → ((sample : SampleNumbers) → WritesNumber s sample.seed → WritesNumber n sample.count → ⊥) → (task : Task) → AskFor (Some s) (Some n) None task → ⊥
+no_sample s n none Script h = some_none s h.0
 no_sample s n none (Generate sample) h = none sample h.0 h.1
+no_sample s n none (Export first) h = some_none s h.0
+
+-- and one that writes no entry's number
+pub no_entry : (f : Text) → ((first : FirstEntry) → WritesNumber f first.number → ⊥) → (task : Task) → AskFor None None (Some f) task → ⊥
+no_entry f none Script h = some_none f h.2
+no_entry f none (Generate sample) h = h.0
+no_entry f none (Export first) h = none first h.2

@@ -7,7 +7,7 @@ use Rattle.clap.specs.Words.{App, Rule, Text, fault_of, first_of, matches_of, ne
 use Rattle.clap.specs.Simple.{on_top}
 use Rattle.clap.specs.declared.builder.action.ArgAction.TheVariants.{Set}
 use Rattle.run_words.specs.declared.task.Task.{Task}
-use Rattle.run_words.specs.declared.task.Task.TheVariants.{Script, Generate}
+use Rattle.run_words.specs.declared.task.Task.TheVariants.{Script, Generate, Export}
 use Rattle.run_words.specs.Numbers.{WritesNumber}
 
 -- the words as texts, each the list of its bytes
@@ -18,11 +18,11 @@ texts = map string_bytes
 abbrev pub option : Text → Rule
 option name = record (new_rule name) { long = Some name; action = Some Set }
 
--- The program's command: the two options, and whatever `clap` adds to each command. Its first word is no program's name.
+-- The program's command: the three options, and whatever `clap` adds to each command. Its first word is no program's name.
 abbrev pub command : App
 command =
     let bare = on_top (λ s. record s { no_binary_name = true }) (new_app (codes "tt_archive")) in
-    with_rule (with_rule bare (option (codes "generate"))) (option (codes "count"))
+    with_rule (with_rule (with_rule bare (option (codes "generate"))) (option (codes "count"))) (option (codes "export"))
 
 -- The command takes the words: its parse fails at no step of them, and no word asks for help.
 unfoldable pub AreTaken : List Text → Type 0
@@ -32,16 +32,18 @@ AreTaken words = fault_of command words ≡ []
 unfoldable pub given : Text → List Text → Option Text
 given name words = first_of name (matches_of command words)
 
--- Two options of these values ask for this: neither is given, or both are, and they write the numbers of the sample. (Each sample has a count
--- from 1 to 100,000.)
-abbrev pub AskFor : Option Text → Option Text → Task → Type 0
-AskFor seed count Script = (seed ≡ None) × (count ≡ None)
-AskFor seed count (Generate sample) = IsSomeAnd seed (λ text. WritesNumber text sample.seed)
-    × IsSomeAnd count (λ text. WritesNumber text sample.count)
+-- Three options of these values ask for this: none is given; or the first two are, and they write the numbers of the sample (each sample has a count
+-- from 1 to 100,000); or the third is, and it writes the number of the first entry that is exported (which is at least 1).
+abbrev pub AskFor : Option Text → Option Text → Option Text → Task → Type 0
+AskFor seed count from Script = (seed ≡ None) × (count ≡ None) × (from ≡ None)
+AskFor seed count from (Generate sample) = IsSomeAnd seed (λ text. WritesNumber text sample.seed)
+    × IsSomeAnd count (λ text. WritesNumber text sample.count) × (from ≡ None)
+AskFor seed count from (Export first) = (seed ≡ None) × (count ≡ None) × IsSomeAnd from (λ text. WritesNumber text first.number)
 
 -- The words ask for this.
 abbrev pub AreWords : List Text → Task → Type 0
-AreWords words task = AreTaken words × AskFor (given (codes "generate") words) (given (codes "count") words) task
+AreWords words task = AreTaken words
+    × AskFor (given (codes "generate") words) (given (codes "count") words) (given (codes "export") words) task
 
 -- The words ask for nothing.
 abbrev pub AreNoWords : List Text → Type 0

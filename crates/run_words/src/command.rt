@@ -21,5 +21,6 @@ pub(crate) fn command<'a>(alloc: Global) -> Result<Command<'a>, AllocError>
     Command::new(alloc, "tt_archive")
         .no_binary_name(true)
         .arg(option(alloc, "generate"))?
-        .arg(option(alloc, "count"))
+        .arg(option(alloc, "count"))?
+        .arg(option(alloc, "export"))
 }

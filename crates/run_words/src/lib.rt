@@ -1,11 +1,12 @@
 //! The words of the command line, and what they ask for.
 //!
-//! The program's command is one of the crate `clap` with two options, `--generate SEED` and
-//! `--count COUNT` (`specs/Words.antt`). Which words it takes and which of them is whose value is
-//! said by that crate's definitions of a parse; that both options are given or none, and which
-//! numbers their values write, is said here. To the layer above it promises that words are read as
-//! the one thing that they ask for, and refused exactly where they ask for nothing, unless memory
-//! runs out. It knows nothing of archives, and shows no text.
+//! The program's command is one of the crate `clap` with three options, `--generate SEED`,
+//! `--count COUNT` and `--export FROM` (`specs/Words.antt`). Which words it takes and which of them is
+//! whose value is said by that crate's definitions of a parse; that the first two are given together
+//! or not at all, that the third is given alone, and which numbers their values write, is said here.
+//! To the layer above it promises that words are read as the one thing that they ask for, and refused
+//! exactly where they ask for nothing, unless memory runs out. It knows nothing of archives, and shows
+//! no text.
 #![tactic(auto)]
 
 mod command;
@@ -18,4 +19,4 @@ mod task;
 pub use error::WordsError;
 pub use laws::{plain_forms, words_ask_for_one_thing, words_ask_or_do_not};
 pub use reading::read_words;
-pub use task::{MOST_COUNT, SampleNumbers, Task};
+pub use task::{FirstEntry, MOST_COUNT, SampleNumbers, Task};

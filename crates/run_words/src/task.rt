@@ -11,6 +11,30 @@ pub enum Task {
     Script,
     /// Carry out the commands of a sample: `--generate SEED --count COUNT`.
     Generate(SampleNumbers),
+    /// Show the entries from a number on as packets: `--export FROM`.
+    Export(FirstEntry),
+}
+
+/// The number of the first entry that is exported, from 1 on. It has at most nineteen digits.
+#[derive(Clone, Copy, Debug, PartialEq, Eq)]
+pub struct FirstEntry {
+    /// The number.
+    pub number: u64,
+    pub ghost some: { 1 ≤ number },
+}
+
+impl FirstEntry {
+    /// The entry of a number; None of 0, which no entry has. Constant cost.
+    pub fn new(number: u64) -> Option<FirstEntry>
+        ensures valid { IsSome result ↔ (1 ≤ number) }
+        ensures value { IfSome result (λ first. first.number ≡ number) }
+    {
+        if number > 0 {
+            Some(FirstEntry { number })
+        } else {
+            None
+        }
+    }
 }
 
 /// The two numbers that a sample of commands is made from.

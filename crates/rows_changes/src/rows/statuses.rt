@@ -14,7 +14,7 @@ fn each_status_has_its_code_and_its_line(rt: HostRuntime) -> Result<(), RowError
         (
             Status::Usage,
             2,
-            "tt_archive: usage: tt_archive [--generate SEED --count COUNT]",
+            "tt_archive: usage: tt_archive [--generate SEED --count COUNT | --export FROM]",
         ),
         (
             Status::NotArchive { at: 16 },

@@ -1,6 +1,6 @@
 //! Words of a command line that ask for something, and words that do not.
 use crate::tests::given::{expect_same, expect_same_in};
-use run_words::{SampleNumbers, Task, WordsError, read_words};
+use run_words::{FirstEntry, SampleNumbers, Task, WordsError, read_words};
 use std::alloc::Global;
 use std::process::Abort;
 
@@ -65,8 +65,30 @@ fn both_options_ask_for_a_sample(rt: HostRuntime) {
     }
 }
 
+/// Lines that ask for an export, and the number of its first entry.
+const EXPORTS: [(&str, u64); 6] = [
+    ("--export 1", 1),
+    ("--export=5", 5),
+    ("--export 007", 7),
+    ("--export 0000000000000000001", 1),
+    ("--export 9999999999999999999", 9_999_999_999_999_999_999),
+    ("--export 1 --", 1),
+];
+
+#[test]
+fn one_option_asks_for_an_export(rt: HostRuntime) {
+    for (line, number) in &EXPORTS {
+        let words = words_of(&rt, rt.alloc(), line);
+        let from = match read_words(rt.alloc(), &words) {
+            Ok(Task::Export(FirstEntry { number })) => Some(number),
+            _ => None,
+        };
+        expect_same_in(&rt, line, from, Some(*number));
+    }
+}
+
 /// Lines that ask for nothing.
-const REFUSED: [&str; 39] = [
+const REFUSED: [&str; 52] = [
     "--generate",
     "--count",
     "--generate 0",
@@ -106,6 +128,19 @@ const REFUSED: [&str; 39] = [
     "-generate 0 --count 2",
     "--Generate 0 --count 2",
     "--verbose",
+    "--export",
+    "--export=",
+    "--export 0",
+    "--export 0000000000000000000",
+    "--export 00000000000000000001",
+    "--export 10000000000000000000",
+    "--export -1",
+    "--export 1a",
+    "--export 1 2",
+    "--export 1 --export 1",
+    "--export 1 --generate 0 --count 2",
+    "--export 1 --count 2",
+    "--exp 1",
 ];
 
 #[test]

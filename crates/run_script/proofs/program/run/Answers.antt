@@ -3,15 +3,16 @@ use Rattle.machine_model.proofs.MomentLemmas.{goes_on_same}
 use Rattle.run_words.specs.Words.{AreWords, texts}
 use Rattle.run_words.specs.declared.task.Task.{Task}
 use Rattle.run_words.specs.declared.task.Task.TheVariants as tasks
-use Rattle.model_archive.specs.Stands.{StandsIn}
+use Rattle.model_archive.specs.Stands.{StandsIn, bodies_of}
 use Rattle.model_archive.specs.Steps.{Step, Works}
 use Rattle.model_archive.specs.Worlds.{at_work, world_of}
 use Rattle.archive_hand.specs.Stored.{StandsBy, StoreStep, StoreStint, is_at_work}
 use Rattle.run_script.specs.Headline.{CarriesOutAll, store_of}
 use Rattle.run_script.specs.declared.status.Status.TheVariants.{Memory}
+use Rattle.run_script.proofs.ExportLemmas.{load_spares, not_exported, pages_still}
 use Rattle.run_script.proofs.PullLemmas.{not_pulled}
 use Rattle.run_script.proofs.SampleLemmas.{not_loaded}
-use Rattle.run_script.proofs.ServeLemmas.{bodies_still, kept_by, keeps_still, keeps_still_by, not_begun}
+use Rattle.run_script.proofs.ServeLemmas.{bodies_still, kept_by, keeps_still, keeps_still_by, not_begun, syncs_still}
 use Rattle.run_script.proofs.StandingLemmas.{kept_history}
 use Rattle.run_script.proofs.program.run.Given.{Over}
 use Rattle.run_script.proofs.program.run.Goals.{In-Err}
@@ -100,3 +101,32 @@ returns-in-Script-clause-by_reads g c = λ source_tells sink_tells disk_tells ar
 
 pub returns-in-Err-clause-unwritten : goal.returns-in-Err-clause-unwritten
 returns-in-Err-clause-unwritten g c = λ disk_tells numbers are bodies each some. (refl, bodies_still bodies (g.M.Disk.disk c.args.machine.now) each)
+
+-- an export
+pub returns-in-Err-clause-export_ends : goal.returns-in-Err-clause-export_ends
+returns-in-Err-clause-export_ends g c = λ first are. rw (memory g (goal.at.returns-in-Err-clause-export_ends g c).In-Err (tasks.Export first) are) tt
+
+pub returns-in-Err-clause-export_loaded : goal.returns-in-Err-clause-export_loaded
+returns-in-Err-clause-export_loaded g c = λ disk_tells first are. inr (inr (inr (memory g (goal.at.returns-in-Err-clause-export_loaded g c).In-Err (tasks.Export first) are)))
+
+pub returns-in-Err-clause-exported : goal.returns-in-Err-clause-exported
+returns-in-Err-clause-exported g c = λ sink_tells disk_tells first are h begins.
+    let m = c.args.machine.now in
+    let d = g.M.Disk.disk m in
+    let none = memory g (goal.at.returns-in-Err-clause-exported g c).In-Err (tasks.Export first) are in
+    not_exported h first.number c.in-Err.status _ _ d d (λ is. (let both = sym none ∙ is in absurd cc)) (g.met.M.Machine.beside_shown m sink_tells disk_tells) refl (pages_still d) (bodies_still (bodies_of h) d) (keeps_still h d)
+
+pub returns-in-Err-clause-export_spared : goal.returns-in-Err-clause-export_spared
+returns-in-Err-clause-export_spared g c = λ sink_tells disk_tells first are.
+    let m = c.args.machine.now in
+    let d = g.M.Disk.disk m in
+    load_spares d d _ _ (g.met.M.Machine.beside_shown m sink_tells disk_tells) refl (pages_still d) (λ long. syncs_still d)
+
+pub returns-in-Err-clause-export_complete : goal.returns-in-Err-clause-export_complete
+returns-in-Err-clause-export_complete g c = λ disk_tells first are archive disk sink. inr (memory g (goal.at.returns-in-Err-clause-export_complete g c).In-Err (tasks.Export first) are)
+
+pub returns-in-Export-clause-refused : goal.returns-in-Export-clause-refused
+returns-in-Export-clause-refused g c = λ disk_tells task are at refused. c.run_export.ensures.refused disk_tells at refused
+
+pub returns-in-Export-clause-left_alone : goal.returns-in-Export-clause-left_alone
+returns-in-Export-clause-left_alone g c = λ disk_tells at refused. let alone = c.run_export.ensures.left_alone disk_tells at refused in (c.run_export.ensures.source, alone.0, alone.1)

@@ -16,4 +16,7 @@ returns c =
     let second_is : rule_of c.option-2.result ≡ option (codes "count") = c.option-2.ensures.rule in
     let with_first : app_of c.in_ok-arg.field-0 ≡ with_rule (bare (new_app (codes "tt_archive"))) (option (codes "generate")) =
     c.in_ok-arg.ensures.shape c.option.ensures.local ∙ ap₂ with_rule bare_is first_is in
-    IfOk-weaker c.arg-2.result _ _ (λ r h. h.shape c.option-2.ensures.local ∙ ap₂ with_rule with_first second_is) c.arg-2.ensures
+    let third_is : rule_of c.option-3.result ≡ option (codes "export") = c.option-3.ensures.rule in
+    let with_second : app_of c.in_ok-arg-2.field-0 ≡ with_rule (with_rule (bare (new_app (codes "tt_archive"))) (option (codes "generate"))) (option (codes "count")) =
+    c.in_ok-arg-2.ensures.shape c.option-2.ensures.local ∙ ap₂ with_rule with_first second_is in
+    IfOk-weaker c.arg-3.result _ _ (λ r h. h.shape c.option-3.ensures.local ∙ ap₂ with_rule with_second third_is) c.arg-3.ensures

@@ -10,11 +10,12 @@ returns c =
     let command_is : app_of c.in_ok-command.field-0 ≡ command = c.in_ok-command.ensures in
     let takes : AreTaken words = taken (app_of c.in_ok-command.field-0) words command_is c.in_ok-matches.ensures.kinds in
     let values = has_given (app_of c.in_ok-command.field-0) words c.in_ok-matches.matches command_is c.in_ok-matches.ensures.matches in
-    let seed_is = c.get_str.ensures ∙ values (codes "generate") in
-    let count_is = c.get_str-2.ensures ∙ values (codes "count") in
+    let seed_is = c.get_str-seed.ensures ∙ values (codes "generate") in
+    let count_is = c.get_str-count.ensures ∙ values (codes "count") in
+    let from_is = c.get_str.ensures ∙ values (codes "export") in
     record {
-      read = read words takes c.task_of.result c.ok_or.result c.ok_or.ensures.value (rw (seed_is, count_is) at c.task_of.ensures.some);
-      refused = refused words takes c.task_of.result c.ok_or.result c.ok_or.ensures.value (rw (seed_is, count_is) at c.task_of.ensures.none);
+      read = read words takes c.task_of.result c.ok_or.result c.ok_or.ensures.value (rw (seed_is, count_is, from_is) at c.task_of.ensures.some);
+      refused = refused words takes c.task_of.result c.ok_or.result c.ok_or.ensures.value (rw (seed_is, count_is, from_is) at c.task_of.ensures.none);
     }
 
 pub returns-in_err-matches-clause-refused : goal.returns-in_err-matches-clause-refused

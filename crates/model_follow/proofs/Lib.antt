@@ -1,0 +1,7 @@
+mod RoomLemmas
+mod PlacedLemmas
+mod JobLemmas
+mod StepLemmas
+mod CaseLemmas
+mod LeaderLemmas
+mod ExportLemmas

@@ -1,0 +1,2 @@
+//! The rows, by what they ask of the program.
+mod exports;

@@ -1,0 +1,3 @@
+pub mod BesideLemmas
+mod PacketLemmas
+mod ExportLemmas
