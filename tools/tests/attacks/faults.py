@@ -12,7 +12,8 @@ from typing import Callable, Iterator
 from model import Outcome
 from scripts import Folder
 
-from attacks.rig import AUDIT_FAULT, BATCH_SCRIPT, DISK_FAULT, NO_LOCKS, REFUSED, RUNS, SAMPLE, SCRIPT, SINK_FAULT, SOURCE_FAULT
+from attacks.rig import AUDIT_FAULT, BATCH_SCRIPT, BROKEN_SCRIPT, DISK_FAULT, JOB_SCRIPT, NO_LOCKS, REFUSED, RUNS, SAMPLE, SCRIPT
+from attacks.rig import SINK_FAULT, SOURCE_FAULT
 from attacks.rig import Whole, expect, nothing, some
 
 FILES = [".", "archive.journal", "archive.pages"]
@@ -71,7 +72,8 @@ def _nth(fault: str, nth: int) -> str:
 
 def _told(fill: Callable[[Folder], None], script: bytes) -> str:
     """What a run is on, in words."""
-    kind = {BATCH_SCRIPT: ", with batches", SAMPLE: ", by a sample"}.get(script, "")
+    kinds = {JOB_SCRIPT: ", with plans in steps", BROKEN_SCRIPT: ", with a plan in steps that is left"}
+    kind = {BATCH_SCRIPT: ", with batches", SAMPLE: ", by a sample", **kinds}.get(script, "")
     return ("a new archive" if fill is nothing else "an archive with plans") + kind
 
 
@@ -81,10 +83,10 @@ def fail_calls(program: str, audit: str, *, is_all: bool) -> str:
     for fill, script in [*RUNS, REFUSED]:
         whole = Whole.of(program, fill, script)
         with Folder(program) as first:
-            fill(first)
+            whole.fill(first)
             for name, fault in tracer.faults(first, whole.outcome, 1 if is_all else 3, script):
                 with Folder(program) as folder:
-                    fill(folder)
+                    whole.fill(folder)
                     outcome = tracer.run_with(folder, name, fault, script)
                     what = f"{name} with {fault} on {_told(fill, script)}"
                     whole.check_cut(folder, outcome, [NO_LOCKS if name == "flock" else DISK_FAULT], what)
@@ -152,12 +154,12 @@ def die_at_calls(program: str, audit: str) -> str:
     for fill, script in [*RUNS, REFUSED]:
         whole = Whole.of(program, fill, script)
         with Folder(program) as first:
-            fill(first)
+            whole.fill(first)
             calls = {it for it, _ in tracer.faults(first, whole.outcome, 1, script)} & {*WRITES, *SYNCS, "openat", "ftruncate"}
             times = Counter(CALL.findall((first.path / "calls").read_text()))
         for name, nth in [(name, nth) for name in sorted(calls) for nth in range(1, times[name] + 1)]:
             with Folder(program) as folder:
-                fill(folder)
+                whole.fill(folder)
                 outcome = tracer.run(folder, "-e", f"inject={name}:signal=KILL:when={nth}", script=script)
                 what = f"a death at call {nth} of {name} on {_told(fill, script)}"
                 expect(outcome.status in (-9, 137), f"{what}: {outcome}")
