@@ -12,8 +12,8 @@ from typing import Callable, Iterator
 from model import Outcome
 from scripts import Folder
 
-from attacks.rig import AUDIT_FAULT, BATCH_SCRIPT, DISK_FAULT, NO_LOCKS, REFUSED, RUNS, SAMPLE, SCRIPT, SINK_FAULT, SOURCE_FAULT
-from attacks.rig import Whole, expect, nothing, some
+from attacks.rig import AUDIT_FAULT, BATCH_SCRIPT, DISK_FAULT, EXPORT, EXPORTS, NO_LOCKS, REFUSED, RUNS, SAMPLE, SCRIPT, SINK_FAULT, SOURCE_FAULT
+from attacks.rig import Whole, expect, is_export, kinds, nothing, some
 
 FILES = [".", "archive.journal", "archive.pages"]
 CALL = re.compile(r"^\d+ +(\w+)\(", re.MULTILINE)
@@ -71,14 +71,14 @@ def _nth(fault: str, nth: int) -> str:
 
 def _told(fill: Callable[[Folder], None], script: bytes) -> str:
     """What a run is on, in words."""
-    kind = {BATCH_SCRIPT: ", with batches", SAMPLE: ", by a sample"}.get(script, "")
+    kind = {BATCH_SCRIPT: ", with batches", SAMPLE: ", by a sample"}.get(script, ", by an export" if is_export(script) else "")
     return ("a new archive" if fill is nothing else "an archive with plans") + kind
 
 
 def fail_calls(program: str, audit: str, *, is_all: bool) -> str:
-    """Each call on the files fails once; the run ends as it is to, and nothing is lost."""
+    """Each call on the files fails once; the run ends as it is to, and nothing is lost. An export whose sync fails shows nothing."""
     told, tracer = Counter[str](), Tracer(program, FILES)
-    for fill, script in [*RUNS, REFUSED]:
+    for fill, script in [*RUNS, *EXPORTS, REFUSED]:
         whole = Whole.of(program, fill, script)
         with Folder(program) as first:
             fill(first)
@@ -88,6 +88,8 @@ def fail_calls(program: str, audit: str, *, is_all: bool) -> str:
                     outcome = tracer.run_with(folder, name, fault, script)
                     what = f"{name} with {fault} on {_told(fill, script)}"
                     whole.check_cut(folder, outcome, [NO_LOCKS if name == "flock" else DISK_FAULT], what)
+                    is_early = is_export(script) and name in SYNCS and outcome.status != 0
+                    expect(not is_early or not outcome.shown, f"{what}: shows {outcome.shown!r} before it has synced")
                     told[name] += 1
     return f"{told.total()} calls on files that fail ({', '.join(f'{count} of {name}' for name, count in sorted(told.items()))})"
 
@@ -112,7 +114,8 @@ def fail_random_calls(program: str, audit: str, *, is_all: bool) -> str:
 def fail_streams(program: str, audit: str) -> str:
     """Each call on the standard streams fails once."""
     count, streams = 0, [("script", READS, SOURCE_FAULT), ("shown", WRITES, SINK_FAULT)]
-    for whole, (stream, calls, allowed) in product([Whole.of(program, some), Whole.of(program, nothing, SAMPLE)], streams):
+    wholes = [Whole.of(program, some), Whole.of(program, nothing, SAMPLE), Whole.of(program, kinds, EXPORT)]
+    for whole, (stream, calls, allowed) in product(wholes, streams):
         tracer = Tracer(program, [stream])
         with Folder(program) as first:
             whole.fill(first)
@@ -147,10 +150,11 @@ def fail_audits(program: str, audit: str) -> str:
 
 
 def die_at_calls(program: str, audit: str) -> str:
-    """The program is killed at each call on the files that makes, changes or syncs one, before the call is made."""
-    count, tracer = 0, Tracer(program, FILES)
-    for fill, script in [*RUNS, REFUSED]:
-        whole = Whole.of(program, fill, script)
+    """The program is killed at each call on the files that makes, changes or syncs one, before the call is made; and an export at each
+    call on its output too."""
+    count = 0
+    for fill, script in [*RUNS, *EXPORTS, REFUSED]:
+        whole, tracer = Whole.of(program, fill, script), Tracer(program, [*FILES, "shown"] if is_export(script) else FILES)
         with Folder(program) as first:
             fill(first)
             calls = {it for it, _ in tracer.faults(first, whole.outcome, 1, script)} & {*WRITES, *SYNCS, "openat", "ftruncate"}
@@ -163,4 +167,4 @@ def die_at_calls(program: str, audit: str) -> str:
                 expect(outcome.status in (-9, 137), f"{what}: {outcome}")
                 whole.check_cut(folder, outcome, [outcome], what)
                 count += 1
-    return f"{count} deaths at calls on files"
+    return f"{count} deaths at calls on files and on what an export shows"

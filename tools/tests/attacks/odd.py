@@ -11,11 +11,11 @@ from itertools import product
 from pathlib import Path
 from typing import Callable
 
-from model import HEADER, Outcome
+from model import HEADER, Outcome, words_of
 from scripts import Folder
 
-from attacks.rig import AUDIT_FAULT, DISK_FAULT, NEXT_SCRIPT, RUNS, SAMPLE, SCRIPT, SINK_FAULT, SOURCE_FAULT
-from attacks.rig import Whole, ends, expect, nothing, some
+from attacks.rig import AUDIT_FAULT, DISK_FAULT, EXPORT, NEXT_SCRIPT, RUNS, SAMPLE, SCRIPT, SINK_FAULT, SOURCE_FAULT
+from attacks.rig import Whole, ends, expect, kinds, nothing, some
 
 DONE = Outcome(b"", "", 0)
 #: The length of a file that is nearly nothing but a hole.
@@ -103,8 +103,9 @@ def sparse_files(program: str, audit: str) -> str:
 
 
 def odd_streams(program: str, audit: str) -> str:
-    """Streams that can't be read or written, or are closed. What was acknowledged stays. A sample doesn't ask for its input."""
-    wholes = Whole.of(program, some), Whole.of(program, nothing, SAMPLE)
+    """Streams that can't be read or written, or are closed. What was acknowledged stays. A sample and an export don't ask for
+    their input."""
+    wholes = Whole.of(program, some), Whole.of(program, nothing, SAMPLE), Whole.of(program, kinds, EXPORT)
     reader, writer = os.pipe()
     os.close(reader)
     root = os.open("/", os.O_RDONLY)
@@ -117,7 +118,7 @@ def odd_streams(program: str, audit: str) -> str:
             ("nobody reads standard output", {"stdout": writer}, SINK_FAULT),
         ]
         for whole, (what, streams, wanted) in product(wholes, tries):
-            wanted = whole.outcome if whole.script == SAMPLE and "stdin" in streams else wanted
+            wanted = whole.outcome if words_of(whole.script) and "stdin" in streams else wanted
             with Folder(program) as folder:
                 whole.fill(folder)
                 outcome = folder.run_as([program], whole.script, **streams)
@@ -131,12 +132,12 @@ def odd_streams(program: str, audit: str) -> str:
         **{"<&- 2>&-": Outcome(b"", "", 5), ">&- 2>&-": Outcome(b"", "", 6), "<&- >&- 2>&-": Outcome(b"", "", 5)},
     }
     for whole, words in product(wholes, closed):
-        wanted = closed.get(words.removeprefix("<&-").lstrip() if whole.script == SAMPLE else words, DONE)
+        wanted = closed.get(words.removeprefix("<&-").lstrip() if words_of(whole.script) else words, DONE)
         with Folder(program) as folder:
             whole.fill(folder)
             outcome = folder.run_as(["/bin/sh", "-c", f'exec "$0" "$@" {words}', program], whole.script)
             whole.check_cut(folder, outcome, [wanted], f"a program with {words}")
-    return f"{len(tries) + len(closed)} streams that can't be used, each by a script and by a sample"
+    return f"{len(tries) + len(closed)} streams that can't be used, each by a script, by a sample and by an export"
 
 
 def full_disks(program: str, audit: str, *, is_all: bool) -> str:

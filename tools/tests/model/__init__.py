@@ -12,7 +12,9 @@ has them, which may be of another version of Unicode than the program's.
 from .archive import Archive, Choice, Outcome
 from .base import PAGE, Differs, NotArchive
 from .journal import HEADER, OPEN, read_journal, spell_journal
-from .samples import words_of
+from .options import words_of
+from .packets import packets
 from .script import items
 
-__all__ = ["HEADER", "OPEN", "PAGE", "Archive", "Choice", "Differs", "NotArchive", "Outcome", "items", "read_journal", "spell_journal", "words_of"]
+__all__ = ["HEADER", "OPEN", "PAGE", "Archive", "Choice", "Differs", "NotArchive", "Outcome"]
+__all__ += ["items", "packets", "read_journal", "spell_journal", "words_of"]
