@@ -151,13 +151,13 @@ def full_disks(program: str, audit: str, *, is_all: bool) -> str:
         for limit in [*range(least, 1_600, 1 if is_all else 19), *range(4_096, 24_576, 64 if is_all else 1_117)]:
             with Folder(program) as folder:
                 whole.fill(folder)
-                outcome = folder.run_as([program], script, preexec_fn=lambda: _limit(limit), restore_signals=False)
+                outcome = folder.run_as([program], script, preexec_fn=lambda: limit_files(limit), restore_signals=False)
                 whole.check_cut(folder, outcome, [DISK_FAULT], f"files of at most {limit} bytes")
                 count += 1
     return f"{count} limits of a file's size, " + _small_disks(program)
 
 
-def _limit(size: int) -> None:
+def limit_files(size: int) -> None:
     """In a process to be: no file may grow beyond a size, and a write that would fails."""
     signal.signal(signal.SIGXFSZ, signal.SIG_IGN)
     resource.setrlimit(resource.RLIMIT_FSIZE, (size, size))
