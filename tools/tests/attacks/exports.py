@@ -18,17 +18,9 @@ from scripts import Folder, altered
 from attacks.damage import FIRST_SUBLIST, FORMATS_SCRIPT, PLAN_GATE, not_archive
 from attacks.lost import FILLS, RECORDER, Disk, Record
 from attacks.odd import limit_files
-from attacks.rig import BATCH_SCRIPT, DISK_FAULT, EXPORT, EXPORT_REST, SCRIPT, SINK_FAULT, STREAMS, Whole, expect, kinds, nothing, some
+from attacks.rig import BATCH_SCRIPT, DISK_FAULT, EXPORT, EXPORT_REST, SCRIPT, SINK_FAULT, STREAMS, Whole, expect, kinds, long_kinds, nothing, some
 
-#: More than a pipe holds.
-LONG_TEXT = b"arrive 9 10 300000\n" + b"red " + b"." * 299_996 + b"\n"
 MOST_SECONDS = 0.004
-
-
-def long_kinds(folder: Folder) -> None:
-    """An archive with entries of each kind, one of which is longer than what a pipe holds."""
-    kinds(folder)
-    expect(not (difference := folder.difference(LONG_TEXT + b"delete 9 11\n")), f"a long text: {difference}")
 
 
 # -- damage

@@ -132,12 +132,13 @@ arrive 7 6 0
 plan red space 2/1 uniform
 plan blue space 3/1 since 1
 batch 1
-arrive 2 8 9
+arrive 2 8 10
 blue caf\xc3\xa9
 plan red guarantee 3/2
 arrive 4294967295 9 4
 \xf0\x9f\x8c\x89
 """
+LONG_TEXT = b"arrive 9 10 300000\n" + b"red " + b"." * 299_996 + b"\n"
 #: Exports of all entries, and of those from one on that stands amid the others.
 EXPORT, EXPORT_REST = b"--export 1\n", b"--export 8\n"
 STREAMS = {"stdin": subprocess.PIPE, "stdout": subprocess.PIPE, "stderr": subprocess.PIPE}
@@ -282,6 +283,12 @@ def kinds(folder: Folder) -> None:
     folder.journal.write_bytes(journal)
     folder.pages.write_bytes(pages)
     folder.archive = Archive.loaded(journal, len(pages))
+
+
+def long_kinds(folder: Folder) -> None:
+    """The same with an entry behind it that is longer than what a pipe holds, and another."""
+    kinds(folder)
+    expect(not (difference := folder.difference(LONG_TEXT + b"delete 9 11\n")), f"a long text: {difference}")
 
 
 #: Archives to begin with, each with a script, that runs are cut short of.
