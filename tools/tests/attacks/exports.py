@@ -140,11 +140,10 @@ def _cut_export(folder: Folder, chance: random.Random) -> str:
     what = f"an export from {first}, {'killed' if kills else 'whose reader goes away'} behind {len(shown)} bytes"
     expect(whole.startswith(shown), f"{what}: what it shows is no front of the packets")
     expect(folder.files() == left, f"{what}: a file is changed")
-    if kills:
-        expect((status, line) == (-9, ""), f"{what}: ends with {status} and {line!r}")
-        return "killed"
-    expect((status, line) in [(SINK_FAULT.status, SINK_FAULT.line), (0, "")], f"{what}: ends with {status} and {line!r}")
-    return "left" if status else "whole"
+    cut = (-9, "") if kills else (SINK_FAULT.status, SINK_FAULT.line)
+    is_whole = (status, line) == (0, "") and (not kills or shown == whole)  # (what is left may have room in the pipe)
+    expect(is_whole or (status, line) == cut, f"{what}: ends with {status} and {line!r}")
+    return "whole" if is_whole else "killed" if kills else "left"
 
 
 def _limit_exports(program: str, is_all: bool) -> int:
