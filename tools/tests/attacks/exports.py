@@ -115,6 +115,7 @@ def cut_exports(program: str, audit: str, *, is_all: bool) -> str:
         long_kinds(folder)
         for number in range(count):
             ends[_cut_export(folder, chance)] += 1
+        _fill_pipe(folder)
         expect(not (difference := folder.difference(EXPORT)), f"an export behind {count} that were cut short: {difference}")
         expect(not (difference := folder.difference(b"verify\nfind 12 red\n")), f"a run behind exports: {difference}")
     expect(ends["killed"] > 0 and ends["left"] > 0, f"exports that were cut short end so: {ends}")
@@ -144,6 +145,18 @@ def _cut_export(folder: Folder, chance: random.Random) -> str:
     is_whole = (status, line) == (0, "") and (not kills or shown == whole)  # (what is left may have room in the pipe)
     expect(is_whole or (status, line) == cut, f"{what}: ends with {status} and {line!r}")
     return "whole" if is_whole else "killed" if kills else "left"
+
+
+def _fill_pipe(folder: Folder) -> None:
+    """Shows an export to a pipe that doesn't wait, and that nobody reads before the export is at its end."""
+    (reader, writer), left = os.pipe(), folder.files()
+    os.set_blocking(writer, False)
+    outcome = folder.run_as([folder.program], EXPORT, stdout=writer)
+    os.close(writer)
+    with open(reader, "rb") as pipe:
+        shown = pipe.read()
+    is_front = shown and packets(folder.archive.entries, 1).startswith(shown)
+    expect(outcome == SINK_FAULT and is_front and folder.files() == left, f"an export to a pipe that is full: {outcome}, having shown {len(shown)} bytes")
 
 
 def _limit_exports(program: str, is_all: bool) -> int:

@@ -149,22 +149,46 @@ def fail_audits(program: str, audit: str) -> str:
     return f"{count} calls of audits that fail"
 
 
-def die_at_calls(program: str, audit: str) -> str:
+def die_at_calls(program: str, audit: str, *, is_all: bool) -> str:
     """The program is killed at each call on the files that makes, changes or syncs one, before the call is made; and an export at each
-    call on its output too."""
-    count = 0
+    call on its output too. Behind some of these deaths the load that follows is killed so."""
+    count = again = 0
     for fill, script in [*RUNS, *EXPORTS, REFUSED]:
         whole, tracer = Whole.of(program, fill, script), Tracer(program, [*FILES, "shown"] if is_export(script) else FILES)
         with Folder(program) as first:
             fill(first)
-            calls = {it for it, _ in tracer.faults(first, whole.outcome, 1, script)} & {*WRITES, *SYNCS, "openat", "ftruncate"}
-            times = Counter(CALL.findall((first.path / "calls").read_text()))
-        for name, nth in [(name, nth) for name in sorted(calls) for nth in range(1, times[name] + 1)]:
+            outcome = tracer.run(first, script=script)
+            expect(outcome == whole.outcome, f"a traced run without faults: {outcome}")
+            deaths = _fatal_calls(first)
+        for name, nth in deaths:
             with Folder(program) as folder:
                 fill(folder)
                 outcome = tracer.run(folder, "-e", f"inject={name}:signal=KILL:when={nth}", script=script)
                 what = f"a death at call {nth} of {name} on {_told(fill, script)}"
                 expect(outcome.status in (-9, 137), f"{what}: {outcome}")
+                again += 0 if count % (1 if is_all else 20) else _die_again(folder, whole, outcome.shown, what)
                 whole.check_cut(folder, outcome, [outcome], what)
                 count += 1
-    return f"{count} deaths at calls on files and on what an export shows"
+    return f"{count} deaths at calls on files and on what an export shows, and {again} at calls of the load behind one"
+
+
+def _fatal_calls(folder: Folder) -> list[tuple[str, int]]:
+    """The calls of a traced run at which a death may tell, each by its name and number."""
+    calls = Counter(CALL.findall((folder.path / "calls").read_text()))
+    names = sorted(calls.keys() & {*WRITES, *SYNCS, "openat", "ftruncate"})
+    return [(name, nth) for name in names for nth in range(1, calls[name] + 1)]
+
+
+def _die_again(left: Folder, whole: Whole, shown: bytes, what: str) -> int:
+    """The load of what a death left is killed at each of its calls; tells how many these are. `shown` is what was shown before the first."""
+    tracer, files = Tracer(left.program, FILES), [(it.name, it.read_bytes()) for it in (left.journal, left.pages) if it.exists()]
+    deaths, number = [("none", 0)], 0  # (the load without a death comes first, and tells its calls)
+    for number, (name, nth) in enumerate(deaths):
+        with Folder(left.program) as folder:
+            for path, content in files:
+                (folder.path / path).write_bytes(content)
+            outcome = tracer.run(folder, *(["-e", f"inject={name}:signal=KILL:when={nth}"] if nth else []), script=b"")
+            expect(outcome.status in ((-9, 137) if nth else (0,)) and not outcome.shown, f"{what}, and a load: {outcome}")
+            deaths += [] if nth else _fatal_calls(folder)
+            whole.check_next(folder, shown, f"{what}, and another at call {nth} of {name} in the load")
+    return number
