@@ -10,7 +10,8 @@ import select
 import signal
 import subprocess
 import time
-from typing import Callable
+from contextlib import contextmanager
+from typing import Callable, Iterator
 
 from model import Choice, Outcome, packets, words_of
 from scripts import MOST_SECONDS, Folder
@@ -135,17 +136,25 @@ def _many(folder: Folder) -> None:
 def _refuse_others(folder: Folder, program: str, audit: str, what: str) -> int:
     """Who comes beside a program that is stopped opens the journal alone, and reads, writes, pulls and shows nothing."""
     others = [(program, b"arrive 1 10 3\nred\n"), (program, SAMPLE), (program, EXPORT), (audit, b"verify\n")]
-    left, names = folder.files(), sorted(os.listdir(folder.path))
+    left, names = folder.files(), {*os.listdir(folder.path), "calls", "script", "shown"}
     for command, script in others:
         outcome = Tracer(command, FILES).run(folder, script=script)
         calls = set(CALL.findall((folder.path / "calls").read_text()))
         is_held = outcome == Outcome(b"", f"{'tt_verify' if command == audit else 'tt_archive'}: {HELD}", 11)
         expect(is_held and folder.pulled == 0 and folder.files() == left, f"{command} on {script!r} beside {what}: {outcome}")
         expect(calls <= {"openat", "fcntl", "flock", "close"}, f"{command} on {script!r} beside {what} calls {calls}")
-        for name in ("calls", "script", "shown"):
-            (folder.path / name).unlink()
-        expect(sorted(os.listdir(folder.path)) == names, f"{command} on {script!r} beside {what} leaves {os.listdir(folder.path)}")
+        expect({*os.listdir(folder.path)} == names, f"{command} on {script!r} beside {what} leaves {os.listdir(folder.path)}")
     return len(others)
+
+
+@contextmanager
+def _started(command: list[str], folder: Folder) -> Iterator[subprocess.Popen[bytes]]:
+    """A command in a folder. It is killed where it is still there at the end, stopped or not."""
+    with subprocess.Popen(command, cwd=folder.path, bufsize=0, **STREAMS) as process:
+        try:
+            yield process
+        finally:
+            process.kill()
 
 
 def _stop(process: subprocess.Popen[bytes]) -> None:
@@ -161,7 +170,7 @@ def _refuse_beside_export(program: str, audit: str) -> int:
         long_kinds(folder)
         whole, refused = packets(folder.archive.entries, 1), 0
         for kills in (False, True):
-            with subprocess.Popen([program, *words_of(EXPORT)], cwd=folder.path, **STREAMS) as process:
+            with _started([program, *words_of(EXPORT)], folder) as process:
                 expect(bool(select.select([process.stdout], [], [], MOST_SECONDS)[0]), "an export shows nothing")
                 _stop(process)
                 refused += _refuse_others(folder, program, audit, "an export")
@@ -193,7 +202,7 @@ def _refuse_beside_script(program: str, audit: str, fill: Callable[[Folder], Non
     """Beside a program that waits for the rest of its script."""
     with Folder(program) as folder:
         fill(folder)
-        with subprocess.Popen([program], cwd=folder.path, bufsize=0, **STREAMS) as process:
+        with _started([program], folder) as process:
             process.stdin.write(begun)
             shown = os.read(process.stdout.fileno(), 1 << 16)
             while shown.count(b"\n") < begun.count(b"\nshow ") + 1:
