@@ -282,6 +282,14 @@ class Writer:
         lines.append(b"find %d %b\nplan %b guarantee 3/2\nfind %d %b\n" % (self.clock - 9, word, word, self.clock - 7, word))
         return b"".join(lines)
 
+    def job_script(self) -> bytes:
+        """A word with many boundaries, and a plan of it that is begun: what comes behind it comes between its stints."""
+        word, lines = self.chance.choice(self.words)[0].encode(), []
+        for _ in range(self.chance.choice([9, 10, 18, 40])):
+            self.clock = min(self.clock + 1, (1 << 40) - 1)
+            text = b" ".join([word] * self.chance.randint(0, 2))
+            lines.append(b"arrive %d %d %d\n%b\n" % (self.chance.randrange(9), self.clock, len(text), text))
+        return b"".join([*lines, b"begin %b guarantee %b\n" % (word, self.chance.choice([b"1/1", b"1/1", b"5/4", self.factor()]))])
 
     def long_script(self) -> bytes:
         """Words in some hundred documents, in some stretches of them more often, with plans that have their horizon behind some of the
@@ -291,7 +299,8 @@ class Writer:
         lines = [b"format 2", *self.many_changes(changed), *self.many_changes(changed)]
         for row in self.words:
             plan = self.chance.choice(["guarantee 1/1", "guarantee 3/2", "guarantee 4294967295/1", "space 2/1 uniform", "space 1/1 uniform", ""])
-            lines += [b"plan %b %b" % (row[-1].encode(), plan.encode())] if plan else []
+            name = b"begin" if plan.startswith("guarantee") and self.is_one_in(3) else b"plan"
+            lines += [b"%b %b %b" % (name, row[-1].encode(), plan.encode())] if plan else []
         lines += self.many_changes(changed) if self.is_one_in(2) else []
         for _ in range(20):
             count = self.chance.choice([b"1", b"2", b"5", b"10", b"40", b"300"])
@@ -436,7 +445,8 @@ def scenario_difference(program: str, seed: int, number: int, is_long: bool = Fa
             first = writer.wide_script() if writer.is_one_in(250) else writer.first_script() if run == 0 else b""
             if run == 0 and (is_long or writer.is_one_in(40)):
                 first = writer.long_script()
-            scripts.append(first + writer.script(chance.choice([3, 12, 30])))
+            begun = writer.job_script() if writer.is_one_in(6) else b""
+            scripts.append(first + begun + writer.script(chance.choice([3, 12, 30])))
             if difference := folder.difference(scripts[-1]):
                 return difference, scripts
         if difference := export_difference(folder, random.Random(f"export {seed} {number}")):

@@ -162,6 +162,16 @@ def _damage_byte(folder: Folder, audit: str, pages: bytes, place: int) -> None:
     outcome = folder.run(b"plan v guarantee 1/1\nfind 15 v\nverify\n")
     mended = b"plan 6 segments 3 space 4 full 2 horizon 40\nhit 1 1\nend 1 read 1\nsound 1 3\n"
     expect(outcome == Outcome(mended, "", 0), f"{what}, and the word is planned anew: {outcome}")
+    # A plan that is begun mends it too, once it is at its end. Where the question ends the run, it is left, and the old one stays.
+    folder.journal.write_bytes(kept)
+    folder.pages.write_bytes(pages[:place] + bytes([byte]) + pages[place + 1 :])
+    begin, left = b"begin v guarantee 1/1\n", Outcome(b"begun 3 3\n", wanted.line, 8)
+    outcome = folder.run(begin + b"find 15 v\n")
+    expect(outcome == left, f"{what}, and the word is asked for while it is planned anew: {outcome}, and not {left}")
+    expect(folder.journal.read_bytes() == kept, f"{what}: the plan that was left is in the journal")
+    outcome = folder.run(begin + b"verify\nfind 15 v\nverify\n")
+    mended = b"begun 3 3\n" + differs + mended.replace(b"plan 6", b"done 6")
+    expect(outcome == Outcome(mended, "", 0), f"{what}, and a new plan of the word is begun: {outcome}, and not {mended!r}")
     folder.journal.write_bytes(kept)
 
 

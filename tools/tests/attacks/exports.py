@@ -166,7 +166,7 @@ def _limit_exports(program: str, is_all: bool) -> int:
     length = len(wholes[kinds].shown)
     for fill, limit in [*((nothing, it) for it in range(end + 1)), *((kinds, it) for it in range(0, length + 1, 1 if is_all else 29))]:
         with Folder(program) as folder:
-            fill(folder)
+            wholes[fill].fill(folder)
             with open(folder.path / "shown", "wb") as shown:
                 outcome = folder.run_as([program], EXPORT, stdout=shown, preexec_fn=lambda: limit_files(limit), restore_signals=False)
             outcome = Outcome((folder.path / "shown").read_bytes(), outcome.line, outcome.status)

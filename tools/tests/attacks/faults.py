@@ -12,7 +12,8 @@ from typing import Callable, Iterator
 from model import Outcome
 from scripts import Folder
 
-from attacks.rig import AUDIT_FAULT, BATCH_SCRIPT, DISK_FAULT, EXPORT, EXPORTS, NO_LOCKS, REFUSED, RUNS, SAMPLE, SCRIPT, SINK_FAULT, SOURCE_FAULT
+from attacks.rig import AUDIT_FAULT, BATCH_SCRIPT, BROKEN_SCRIPT, DISK_FAULT, EXPORT, EXPORTS, JOB_SCRIPT, NO_LOCKS, REFUSED, RUNS
+from attacks.rig import SAMPLE, SCRIPT, SINK_FAULT, SOURCE_FAULT
 from attacks.rig import Whole, expect, is_export, kinds, nothing, some
 
 FILES = [".", "archive.journal", "archive.pages"]
@@ -71,7 +72,8 @@ def _nth(fault: str, nth: int) -> str:
 
 def _told(fill: Callable[[Folder], None], script: bytes) -> str:
     """What a run is on, in words."""
-    kind = {BATCH_SCRIPT: ", with batches", SAMPLE: ", by a sample"}.get(script, ", by an export" if is_export(script) else "")
+    told = {JOB_SCRIPT: ", with plans in steps", BROKEN_SCRIPT: ", with a plan in steps that is left"}
+    kind = {BATCH_SCRIPT: ", with batches", SAMPLE: ", by a sample", **told}.get(script, ", by an export" if is_export(script) else "")
     return ("a new archive" if fill is nothing else "an archive with plans") + kind
 
 
@@ -81,10 +83,10 @@ def fail_calls(program: str, audit: str, *, is_all: bool) -> str:
     for fill, script in [*RUNS, *EXPORTS, REFUSED]:
         whole = Whole.of(program, fill, script)
         with Folder(program) as first:
-            fill(first)
+            whole.fill(first)
             for name, fault in tracer.faults(first, whole.outcome, 1 if is_all else 3, script):
                 with Folder(program) as folder:
-                    fill(folder)
+                    whole.fill(folder)
                     outcome = tracer.run_with(folder, name, fault, script)
                     what = f"{name} with {fault} on {_told(fill, script)}"
                     whole.check_cut(folder, outcome, [NO_LOCKS if name == "flock" else DISK_FAULT], what)
@@ -156,13 +158,13 @@ def die_at_calls(program: str, audit: str, *, is_all: bool) -> str:
     for fill, script in [*RUNS, *EXPORTS, REFUSED]:
         whole, tracer = Whole.of(program, fill, script), Tracer(program, [*FILES, "shown"] if is_export(script) else FILES)
         with Folder(program) as first:
-            fill(first)
+            whole.fill(first)
             outcome = tracer.run(first, script=script)
             expect(outcome == whole.outcome, f"a traced run without faults: {outcome}")
             deaths = _fatal_calls(first)
         for name, nth in deaths:
             with Folder(program) as folder:
-                fill(folder)
+                whole.fill(folder)
                 outcome = tracer.run(folder, "-e", f"inject={name}:signal=KILL:when={nth}", script=script)
                 what = f"a death at call {nth} of {name} on {_told(fill, script)}"
                 expect(outcome.status in (-9, 137), f"{what}: {outcome}")

@@ -8,7 +8,7 @@ import subprocess
 import time
 from collections import Counter
 
-from model import Choice, Differs, NotArchive, Outcome, items, read_journal, spell_journal, words_of
+from model import STINT_PAGES, Choice, Differs, NotArchive, Outcome, items, read_journal, spell_journal, words_of
 from scripts import Folder
 
 from attacks.rig import STREAMS, Whole, Wrong, acknowledged, expect, nothing
@@ -20,6 +20,7 @@ LONG_SAMPLE = b"--generate 7 --count 400\n"
 KILLED = Outcome(b"", "", -9)
 COMMANDS = 300
 MOST_SECONDS = 0.0005
+CHANGES = (b"arrive", b"delete", b"plan", b"begin", b"batch")
 #: After so many entries the next archive is begun, since the model plans slowly.
 MOST_ENTRIES = 80
 
@@ -78,7 +79,7 @@ def _questions(folder: Folder) -> bytes:
 
 
 def _changes(folder: Folder, chance: random.Random) -> bytes:
-    """Changes, batches of them and plans, most of which are allowed."""
+    """Changes, batches of them and plans, most of which are allowed. Some plans are written in steps."""
     last, lines = folder.archive.last, []
     for _ in range(COMMANDS):
         last += 1
@@ -92,8 +93,10 @@ def _changes(folder: Folder, chance: random.Random) -> bytes:
             last += count
         elif kind < 38:
             lines.append(b"delete %d %d\n" % (document, last))
-        else:
+        elif kind == 38:
             lines.append(chance.choice([b"plan red guarantee 3/2\n", b"plan red guarantee 1/1\n", b"plan blue space 2/1 uniform\n"]))
+        else:
+            lines.append(chance.choice([b"begin red guarantee 1/1\n", b"begin red guarantee 1/1\n", b"begin blue guarantee 3/2\n"]))
     return b"".join(lines)
 
 
@@ -129,15 +132,19 @@ def _killed(folder: Folder, chance: random.Random) -> str:
 def _go_on(folder: Folder, script: bytes, shown: bytes) -> bool:
     """Brings the model to where the program came: what it showed is a front of the model's replies, and its journal has each entry that
     was acknowledged and at most one more. Tells whether it came to the end of the script."""
-    archive, replies = folder.archive, b""
+    archive, replies, archive.job = folder.archive, b"", None
     entries = [entry for _, entry in read_journal(folder.journal.read_bytes() if folder.journal.exists() else b"")]
     count = max(len(archive.entries), acknowledged(shown))
     expect(count <= len(entries) <= count + 1, f"{count} entries were acknowledged, and the journal has {len(entries)}")
     for item in items(script):
-        is_change = item.words[0] in (b"arrive", b"delete", b"plan", b"batch")
-        if is_change and len(archive.entries) == len(entries) and len(replies) >= len(shown):
+        is_at_end, is_change = len(archive.entries) == len(entries) and len(replies) >= len(shown), item.words[0] in CHANGES
+        if is_at_end and is_change:
             break
-        replies += archive.shown_of(item, Choice(entries, b""))
+        was_at_work = archive.job is not None
+        replies += archive.shown_of(item, Choice(entries, shown[len(replies) :]))
+        if was_at_work and archive.job.plan is None and archive.job.left <= STINT_PAGES:
+            break
+        replies += archive.stint() if was_at_work else b""
     else:
         item = None
     expect(archive.entries == entries, f"the journal's entries aren't the model's: {[it.hex() for it in entries]}")

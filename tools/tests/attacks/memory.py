@@ -22,6 +22,7 @@ LONG_SCRIPT = b"format 2\n" + b"".join(
     + b"arrive 1 %d 8\nred w%03d\narrive 2 %d 4\nblue\ndelete 1 %d\narrive 3 %d 8\nred blue\n" % (time, time, time + 1, time + 2, time + 3)
     + b"plan red guarantee 3/2\nplan blue space 2/1 uniform\nfind %d red or blue and not w%03d\n" % (time + 2, time)
     + b"between 5 %d blue not red\npropose red guarantee 1/1\ncertificate red\nverify\nshow 3 %d\nnonsense\n" % (time, time)
+    + b"begin red guarantee 1/1\nbegin blue guarantee 1/1\n"
     + b"top 2 %d red or blue\nbest 2 %d red^2 or blue\nrough 1/4 %d blue\napprox red 1/2\nshare 2/1 red blue\n" % (time, time + 1, time)
     for time in range(10, 100, 10)
 )

@@ -152,7 +152,10 @@ def full_disks(program: str, audit: str, *, is_all: bool) -> str:
         with Folder(program) as folder:
             whole.fill(folder)
             least = folder.journal.stat().st_size if folder.journal.exists() else 0
-        for limit in [*range(least, 1_600, 1 if is_all else 19), *range(4_096, 24_576, 64 if is_all else 1_117)]:
+            expect(not (difference := folder.difference(script)), difference)
+            pages = folder.pages.stat().st_size
+        step = 64 if is_all else max(1_117, pages // 40)
+        for limit in [*range(least, 1_600, 1 if is_all else 19), *range(4_096, pages + step, step)]:
             with Folder(program) as folder:
                 whole.fill(folder)
                 outcome = folder.run_as([program], script, preexec_fn=lambda: limit_files(limit), restore_signals=False)
@@ -169,21 +172,21 @@ def limit_files(size: int) -> None:
 
 #: A plan with so many sublists that it takes many pages, and then another.
 ARRIVALS = b"".join(b"arrive %d %d 3\nred\n" % (at, at) for at in range(1, 41))
-MANY_PAGES = ARRIVALS + b"plan red guarantee 1/1\nplan red guarantee 3/2\nverify\n"
+MANY_PAGES = [ARRIVALS + b"plan red guarantee 1/1\n%b red guarantee 3/2\nfind 20 red\nverify\n" % name for name in (b"plan", b"begin")]
 
 
 def _small_disks(program: str) -> str:
     """Small disks, on which there is no room for all."""
-    whole, sizes, faults = Whole.of(program, nothing, MANY_PAGES), range(4_096, 300_000, 12_288), 0
-    with Folder(program) as folder:
-        disk = folder.path / "disk"
-        disk.mkdir()
-        for size in sizes:
+    sizes, faults = range(4_096, 300_000, 12_288), 0
+    for whole, size in product([Whole.of(program, nothing, script) for script in MANY_PAGES], sizes):
+        with Folder(program) as folder:
+            disk = folder.path / "disk"
+            disk.mkdir()
             mount = ["mount", "-t", "tmpfs", "-o", f"size={size},mode=700", "tmpfs", disk]
             if shutil.which("mount") is None or subprocess.run(mount, capture_output=True).returncode != 0:
                 return "and no small disk, since none can be mounted here"
             try:
-                outcome = Folder(program, disk).run(MANY_PAGES)
+                outcome = Folder(program, disk).run(whole.script)
                 shutil.copytree(disk, folder.path / "saved")
             finally:
                 subprocess.run(["umount", disk], check=True)
@@ -194,4 +197,4 @@ def _small_disks(program: str) -> str:
             saved = Folder(program, folder.path / "saved")
             with saved:
                 whole.check_next(saved, outcome.shown, what)
-    return f"and {len(sizes)} small disks, {faults} of them too small"
+    return f"and {len(MANY_PAGES) * len(sizes)} small disks, {faults} of them too small"

@@ -2,12 +2,12 @@
 
 from __future__ import annotations
 
+import copy
 import os
 import random
 import re
 import subprocess
 from dataclasses import dataclass
-from functools import cache
 from pathlib import Path
 from typing import Callable
 
@@ -74,6 +74,30 @@ verify
 batch 2
 delete 1 40
 """
+#: Changes of each kind beside plans that are written in steps: the first takes 18 pages, and so three stints.
+JOB_SCRIPT = b"""begin red guarantee 1/1
+begin red guarantee 2/1
+# skipped
+find 15 red
+plan blue guarantee 1/1
+arrive 2 28 8
+red blue
+begin blue guarantee 3/2
+begin red guarantee 2/1
+delete 10 29
+begin red guarantee 1/1
+find 15 red
+batch 2
+arrive 1 30 3
+red
+delete 2 31
+begin red guarantee 4/1
+verify
+find 28 red or blue
+begin red guarantee 5/4
+"""
+#: A script that is broken before such a plan is at its end.
+BROKEN_SCRIPT = b"begin red guarantee 1/1\narrive 2 28 8\nred blue\nplan blue guarantee 1/1\narrive x\n"
 #: A sample by the greatest seed. One of its words is unknown then, and one has nothing sealed.
 SAMPLE = b"--generate 9999999999999999999 --count 3\n"
 #: What is asked and changed in the run after.
@@ -103,9 +127,12 @@ plan blue space 3/1 since 20
 delete 1 70
 find 61 red
 find 55 red
+begin red guarantee 3/2
 between 10 80 blue or red
+begin blue guarantee 1/1
 certificate red
 verify
+begin red guarantee 1/1
 """
 #: The same behind a sample.
 NEXT_OF_SAMPLE = b"""verify
@@ -176,7 +203,7 @@ def ends(command: list[str], folder: Path, **streams: object) -> Outcome:
 
 def acknowledged(shown: bytes) -> int:
     """How many entries the replies that are whole acknowledge."""
-    replies = re.findall(rb"^(?:ok|plan) (\d+)\b.*\n", shown, re.MULTILINE)
+    replies = re.findall(rb"^(?:ok|plan|done) (\d+)\b.*\n", shown, re.MULTILINE)
     return int(replies[-1]) if replies else 0
 
 
@@ -195,10 +222,10 @@ class Whole:
     def of(cls, program: str, fill: Callable[[Folder], None], script: bytes = SCRIPT) -> Whole:
         with Folder(program) as folder:
             fill(folder)
-            before, files = len(folder.archive.entries), folder.files()
+            before, files, again = len(folder.archive.entries), folder.files(), _filler(folder)
             difference = folder.difference(script)
             expect(not difference, f"a run without faults: {difference}")
-            return cls(fill, script, folder.outcome, folder.archive.entries, before, files)
+            return cls(again, script, folder.outcome, folder.archive.entries, before, files)
 
     @classmethod
     def random(cls, program: str, number: int) -> Whole:
@@ -257,6 +284,19 @@ class Whole:
             expect(is_left, f"{what}: a sample that is refused changes a file")
 
 
+def _filler(folder: Folder) -> Callable[[Folder], None]:
+    """What fills a folder as this one is filled now."""
+    files = {path.name: path.read_bytes() for path in (folder.journal, folder.pages) if path.exists()}
+    archive = copy.deepcopy(folder.archive)
+
+    def fill(other: Folder) -> None:
+        for name, content in files.items():
+            (other.path / name).write_bytes(content)
+        other.archive = copy.deepcopy(archive)
+
+    return fill
+
+
 def nothing(_: Folder) -> None:
     """A new folder."""
 
@@ -268,33 +308,43 @@ def some(folder: Folder) -> None:
     expect(not difference, f"an archive to begin with: {difference}")
 
 
-@cache
-def _kinds(program: str) -> tuple[bytes, bytes]:
-    with Folder(program) as folder:
-        some(folder)
-        expect(not (difference := folder.difference(KINDS_SCRIPT)), f"an archive with entries of each kind: {difference}")
-        expect(len(folder.archive.entries) == 13, f"an archive with entries of each kind has {len(folder.archive.entries)}")
-        return folder.journal.read_bytes(), folder.pages.read_bytes()
+def many(folder: Folder) -> None:
+    """The same, with a word in many documents."""
+    some(folder)
+    arrivals = b"".join(b"arrive %d %d 3\nred\n" % (at, at) for at in range(10, 28))
+    difference = folder.difference(b"format 2\nbatch 18\n" + arrivals)
+    expect(not difference, f"an archive to begin with: {difference}")
+
+
+def left(folder: Folder) -> None:
+    """The same, where a plan was begun and not ended: its first pages are written, and nothing tells so."""
+    many(folder)
+    pages = folder.pages.stat().st_size
+    difference = folder.difference(b"begin red guarantee 1/1\nfind 15 red\nverify\narrive x\n")
+    expect(not difference, f"an archive to begin with: {difference}")
+    expect(folder.pages.stat().st_size > pages, "a plan that was begun and not ended leaves no byte")
 
 
 def kinds(folder: Folder) -> None:
-    """The same with entries of each kind behind it. (The program makes these files once.)"""
-    journal, pages = _kinds(folder.program)
-    folder.journal.write_bytes(journal)
-    folder.pages.write_bytes(pages)
-    folder.archive = Archive.loaded(journal, len(pages))
+    """An archive with entries of each kind, texts without words and replaced plans among them."""
+    some(folder)
+    expect(not (difference := folder.difference(KINDS_SCRIPT)), f"an archive to begin with: {difference}")
+    expect(len(folder.archive.entries) == 13, f"an archive with entries of each kind has {len(folder.archive.entries)}")
 
 
 def long_kinds(folder: Folder) -> None:
     """The same with an entry behind it that is longer than what a pipe holds, and another."""
     kinds(folder)
-    expect(not (difference := folder.difference(LONG_TEXT + b"delete 9 11\n")), f"a long text: {difference}")
+    expect(not (difference := folder.difference(LONG_TEXT + b"delete 9 11\n")), f"an archive to begin with: {difference}")
 
 
 #: Archives to begin with, each with a script, that runs are cut short of.
-RUNS: list[tuple[Callable[[Folder], None], bytes]] = [(nothing, SCRIPT), (some, SCRIPT), (some, BATCH_SCRIPT), (nothing, SAMPLE)]
+RUNS: list[tuple[Callable[[Folder], None], bytes]] = [
+    *((nothing, SCRIPT), (some, SCRIPT), (some, BATCH_SCRIPT), (nothing, SAMPLE)),
+    *((left, JOB_SCRIPT), (many, BROKEN_SCRIPT)),
+]
 #: A sample that is refused.
-REFUSED = (some, SAMPLE)
+REFUSED = (left, SAMPLE)
 EXPORTS: list[tuple[Callable[[Folder], None], bytes]] = [(nothing, EXPORT), (kinds, EXPORT), (kinds, EXPORT_REST)]
 
 

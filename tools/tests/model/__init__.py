@@ -9,12 +9,14 @@ say. A new command gets a case in `Archive._reply`. Words are found by Unicode's
 has them, which may be of another version of Unicode than the program's.
 """
 
-from .archive import Archive, Choice, Outcome
+from .archive import STINT_PAGES, Archive, Choice, Outcome
 from .base import PAGE, Differs, NotArchive
 from .journal import HEADER, OPEN, read_journal, spell_journal
 from .options import words_of
 from .packets import packets
 from .script import items
 
-__all__ = ["HEADER", "OPEN", "PAGE", "Archive", "Choice", "Differs", "NotArchive", "Outcome"]
-__all__ += ["items", "packets", "read_journal", "spell_journal", "words_of"]
+__all__ = [
+    *("HEADER", "OPEN", "PAGE", "STINT_PAGES", "Archive", "Choice", "Differs", "NotArchive", "Outcome"),
+    *("items", "packets", "read_journal", "spell_journal", "words_of"),
+]

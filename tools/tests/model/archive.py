@@ -151,10 +151,10 @@ class Archive:
                 shown += self.shown_of(item, Choice(choice.entries, choice.shown[len(shown) :]))
                 if not choice.shown.startswith(shown):
                     break
-                shown += self._stint() if was_at_work else b""
+                shown += self.stint() if was_at_work else b""
             else:
                 while self.job:
-                    shown += self._stint()
+                    shown += self.stint()
         except Broken as place:
             return Outcome(shown, f"tt_archive: script fault at byte {place}\n", 7)
         return Outcome(shown, "", 0)
@@ -483,7 +483,7 @@ class Archive:
         self.job = Job(key, plan, told_of(line, plan), pages)
         return [f"begun {len(plan.places)} {pages}"]
 
-    def _stint(self) -> bytes:
+    def stint(self) -> bytes:
         """Writes the next pages of the plan that was begun; behind the last ones it is stored."""
         job = self.job
         if job.left > STINT_PAGES:
