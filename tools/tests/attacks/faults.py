@@ -168,7 +168,7 @@ def die_at_calls(program: str, audit: str, *, is_all: bool) -> str:
                 outcome = tracer.run(folder, "-e", f"inject={name}:signal=KILL:when={nth}", script=script)
                 what = f"a death at call {nth} of {name} on {_told(fill, script)}"
                 expect(outcome.status in (-9, 137), f"{what}: {outcome}")
-                again += 0 if count % (1 if is_all else 20) else _die_again(folder, whole, outcome.shown, what)
+                again += 0 if count % (1 if is_all else 30) else _die_again(folder, whole, outcome.shown, what)
                 whole.check_cut(folder, outcome, [outcome], what)
                 count += 1
     return f"{count} deaths at calls on files and on what an export shows, and {again} at calls of the load behind one"
