@@ -4,7 +4,8 @@
     python3 tools/tests/scripts.py PROGRAM [--count N] [--seed S] [--first I]
 
 A scenario is some runs on one archive, in a folder in memory where there is such a folder. After each run the program is to have
-shown what the model says, and its journal and the sublists of its plans are to have the model's bytes. What is drawn depends on
+shown what the model says, and its journal and the sublists of its plans are to have the model's bytes. Behind them come two exports,
+which are to show the model's packets. What is drawn depends on
 the seed and the scenario's number alone. The alphabets of words, documents and times are small, so that most things meet. The
 letters of the words are in each version of Unicode that a program may have.
 """
@@ -412,18 +413,27 @@ def altered(chance: random.Random, journal: bytes) -> bytes:
     return journal[:place] + bytes([chance.choice([0, 1, 2, 9, 0xA5, 0xFF, journal[place] ^ 1])]) + journal[place + 1 :]
 
 
+def export_difference(folder: Folder, chance: random.Random) -> str:
+    """How the exports of all entries and of those from a number on differ from the model's packets."""
+    for first in (1, chance.randint(1, len(folder.archive.entries) + 2)):
+        if difference := folder.difference(b"--export %d\n" % first):
+            return f"an export from {first}: {difference}"
+    return ""
+
+
 def journal_difference(folder: Folder, journal: bytes) -> str:
-    """How the program's load of another journal differs from the model's."""
+    """How the program's load of another journal differs from the model's, for an export and for a script."""
     folder.journal.write_bytes(journal)
     try:
         folder.archive = Archive.loaded(journal, folder.pages.stat().st_size)
+        refused = None
     except NotArchive as place:
-        outcome = folder.run(b"find 1 red\n")
-        line = f"tt_archive: not an archive at byte {place} of the journal\n"
-        return "" if outcome == Outcome(b"", line, 3) else f"the program ends with {outcome}, and is to end with {line!r}"
-    outcome = folder.run(b"arrive 9 1099511627775 3\nred\n")
-    wanted = folder.archive.run(b"arrive 9 1099511627775 3\nred\n", Choice([], b""))
-    return "" if outcome == wanted else f"{outcome}, and not {wanted}"
+        refused = Outcome(b"", f"tt_archive: not an archive at byte {place} of the journal\n", 3)
+    for script in (b"--export 1\n", b"arrive 9 1099511627775 3\nred\n"):
+        outcome, wanted = folder.run(script), refused or folder.archive.run(script, Choice([], b""))
+        if outcome != wanted:
+            return f"of {script!r} the program makes {outcome}, and not {wanted}"
+    return ""
 
 
 def scenario_difference(program: str, seed: int, number: int, is_long: bool = False) -> tuple[str, list[bytes]]:
@@ -439,6 +449,8 @@ def scenario_difference(program: str, seed: int, number: int, is_long: bool = Fa
             scripts.append(first + begun + writer.script(chance.choice([3, 12, 30])))
             if difference := folder.difference(scripts[-1]):
                 return difference, scripts
+        if difference := export_difference(folder, random.Random(f"export {seed} {number}")):
+            return difference, scripts
         if writer.is_one_in(2):
             scripts.append(altered(chance, folder.journal.read_bytes()))
             return journal_difference(folder, scripts[-1]), scripts

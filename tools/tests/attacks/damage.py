@@ -9,7 +9,7 @@ from struct import pack
 from model import HEADER, PAGE, Archive, NotArchive, Outcome, read_journal, spell_journal
 from scripts import Folder
 
-from attacks.rig import BATCH_SCRIPT, SAMPLE, SCRIPT, ends, expect, some
+from attacks.rig import BATCH_SCRIPT, EXPORT, SAMPLE, SCRIPT, ends, expect, some
 
 ONE_SCRIPT = b"arrive 7 10 5\nred a\n"
 FORMATS_SCRIPT = b"arrive 1 10 1\nv\narrive 2 20 1\nv\ndelete 2 30\ndelete 1 40\nplan v guarantee 1/1\n"
@@ -100,7 +100,7 @@ def damage_journals(program: str, audit: str) -> str:
             if len(journal) < 1 << 20:  # (the model is slow)
                 expect(_model_place(journal) == place, f"a journal with {what}: the model has it at fault at {_model_place(journal)}")
             wanted = Outcome(b"", "", 0) if place is None else not_archive(place)
-            for script in [b""] if place is None else [b"", SAMPLE]:
+            for script in [b""] if place is None else [b"", SAMPLE, EXPORT]:
                 outcome = folder.run(script)
                 expect(outcome == wanted, f"a journal with {what}, {journal[:99].hex()}: {outcome}, and not {wanted}")
             left = HEADER + b"\0" if len(journal) <= 17 else journal

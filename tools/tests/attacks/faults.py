@@ -12,9 +12,9 @@ from typing import Callable, Iterator
 from model import Outcome
 from scripts import Folder
 
-from attacks.rig import AUDIT_FAULT, BATCH_SCRIPT, BROKEN_SCRIPT, DISK_FAULT, JOB_SCRIPT, NO_LOCKS, REFUSED, RUNS, SAMPLE, SCRIPT
-from attacks.rig import SINK_FAULT, SOURCE_FAULT
-from attacks.rig import Whole, expect, nothing, some
+from attacks.rig import AUDIT_FAULT, BATCH_SCRIPT, BROKEN_SCRIPT, DISK_FAULT, EXPORT, EXPORTS, JOB_SCRIPT, NO_LOCKS, REFUSED, RUNS
+from attacks.rig import SAMPLE, SCRIPT, SINK_FAULT, SOURCE_FAULT
+from attacks.rig import Whole, expect, is_export, kinds, nothing, some
 
 FILES = [".", "archive.journal", "archive.pages"]
 CALL = re.compile(r"^\d+ +(\w+)\(", re.MULTILINE)
@@ -72,15 +72,15 @@ def _nth(fault: str, nth: int) -> str:
 
 def _told(fill: Callable[[Folder], None], script: bytes) -> str:
     """What a run is on, in words."""
-    kinds = {JOB_SCRIPT: ", with plans in steps", BROKEN_SCRIPT: ", with a plan in steps that is left"}
-    kind = {BATCH_SCRIPT: ", with batches", SAMPLE: ", by a sample", **kinds}.get(script, "")
+    told = {JOB_SCRIPT: ", with plans in steps", BROKEN_SCRIPT: ", with a plan in steps that is left"}
+    kind = {BATCH_SCRIPT: ", with batches", SAMPLE: ", by a sample", **told}.get(script, ", by an export" if is_export(script) else "")
     return ("a new archive" if fill is nothing else "an archive with plans") + kind
 
 
 def fail_calls(program: str, audit: str, *, is_all: bool) -> str:
-    """Each call on the files fails once; the run ends as it is to, and nothing is lost."""
+    """Each call on the files fails once; the run ends as it is to, and nothing is lost. An export whose sync fails shows nothing."""
     told, tracer = Counter[str](), Tracer(program, FILES)
-    for fill, script in [*RUNS, REFUSED]:
+    for fill, script in [*RUNS, *EXPORTS, REFUSED]:
         whole = Whole.of(program, fill, script)
         with Folder(program) as first:
             whole.fill(first)
@@ -90,6 +90,8 @@ def fail_calls(program: str, audit: str, *, is_all: bool) -> str:
                     outcome = tracer.run_with(folder, name, fault, script)
                     what = f"{name} with {fault} on {_told(fill, script)}"
                     whole.check_cut(folder, outcome, [NO_LOCKS if name == "flock" else DISK_FAULT], what)
+                    is_early = is_export(script) and name in SYNCS and outcome.status != 0
+                    expect(not is_early or not outcome.shown, f"{what}: shows {outcome.shown!r} before it has synced")
                     told[name] += 1
     return f"{told.total()} calls on files that fail ({', '.join(f'{count} of {name}' for name, count in sorted(told.items()))})"
 
@@ -114,7 +116,8 @@ def fail_random_calls(program: str, audit: str, *, is_all: bool) -> str:
 def fail_streams(program: str, audit: str) -> str:
     """Each call on the standard streams fails once."""
     count, streams = 0, [("script", READS, SOURCE_FAULT), ("shown", WRITES, SINK_FAULT)]
-    for whole, (stream, calls, allowed) in product([Whole.of(program, some), Whole.of(program, nothing, SAMPLE)], streams):
+    wholes = [Whole.of(program, some), Whole.of(program, nothing, SAMPLE), Whole.of(program, kinds, EXPORT)]
+    for whole, (stream, calls, allowed) in product(wholes, streams):
         tracer = Tracer(program, [stream])
         with Folder(program) as first:
             whole.fill(first)
@@ -148,21 +151,46 @@ def fail_audits(program: str, audit: str) -> str:
     return f"{count} calls of audits that fail"
 
 
-def die_at_calls(program: str, audit: str) -> str:
-    """The program is killed at each call on the files that makes, changes or syncs one, before the call is made."""
-    count, tracer = 0, Tracer(program, FILES)
-    for fill, script in [*RUNS, REFUSED]:
-        whole = Whole.of(program, fill, script)
+def die_at_calls(program: str, audit: str, *, is_all: bool) -> str:
+    """The program is killed at each call on the files that makes, changes or syncs one, before the call is made; and an export at each
+    call on its output too. Behind some of these deaths the load that follows is killed so."""
+    count = again = 0
+    for fill, script in [*RUNS, *EXPORTS, REFUSED]:
+        whole, tracer = Whole.of(program, fill, script), Tracer(program, [*FILES, "shown"] if is_export(script) else FILES)
         with Folder(program) as first:
             whole.fill(first)
-            calls = {it for it, _ in tracer.faults(first, whole.outcome, 1, script)} & {*WRITES, *SYNCS, "openat", "ftruncate"}
-            times = Counter(CALL.findall((first.path / "calls").read_text()))
-        for name, nth in [(name, nth) for name in sorted(calls) for nth in range(1, times[name] + 1)]:
+            outcome = tracer.run(first, script=script)
+            expect(outcome == whole.outcome, f"a traced run without faults: {outcome}")
+            deaths = _fatal_calls(first)
+        for name, nth in deaths:
             with Folder(program) as folder:
                 whole.fill(folder)
                 outcome = tracer.run(folder, "-e", f"inject={name}:signal=KILL:when={nth}", script=script)
                 what = f"a death at call {nth} of {name} on {_told(fill, script)}"
                 expect(outcome.status in (-9, 137), f"{what}: {outcome}")
+                again += 0 if count % (1 if is_all else 30) else _die_again(folder, whole, outcome.shown, what)
                 whole.check_cut(folder, outcome, [outcome], what)
                 count += 1
-    return f"{count} deaths at calls on files"
+    return f"{count} deaths at calls on files and on what an export shows, and {again} at calls of the load behind one"
+
+
+def _fatal_calls(folder: Folder) -> list[tuple[str, int]]:
+    """The calls of a traced run at which a death may tell, each by its name and number."""
+    calls = Counter(CALL.findall((folder.path / "calls").read_text()))
+    names = sorted(calls.keys() & {*WRITES, *SYNCS, "openat", "ftruncate"})
+    return [(name, nth) for name in names for nth in range(1, calls[name] + 1)]
+
+
+def _die_again(left: Folder, whole: Whole, shown: bytes, what: str) -> int:
+    """The load of what a death left is killed at each of its calls; tells how many these are. `shown` is what was shown before the first."""
+    tracer, files = Tracer(left.program, FILES), [(it.name, it.read_bytes()) for it in (left.journal, left.pages) if it.exists()]
+    deaths, number = [("none", 0)], 0  # (the load without a death comes first, and tells its calls)
+    for number, (name, nth) in enumerate(deaths):
+        with Folder(left.program) as folder:
+            for path, content in files:
+                (folder.path / path).write_bytes(content)
+            outcome = tracer.run(folder, *(["-e", f"inject={name}:signal=KILL:when={nth}"] if nth else []), script=b"")
+            expect(outcome.status in ((-9, 137) if nth else (0,)) and not outcome.shown, f"{what}, and a load: {outcome}")
+            deaths += [] if nth else _fatal_calls(folder)
+            whole.check_next(folder, shown, f"{what}, and another at call {nth} of {name} in the load")
+    return number

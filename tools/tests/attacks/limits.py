@@ -5,7 +5,7 @@ from __future__ import annotations
 from struct import pack
 from typing import Iterable
 
-from model import Outcome, spell_journal
+from model import Outcome, packets, read_journal, spell_journal
 from scripts import Folder
 
 from attacks.rig import expect
@@ -21,12 +21,17 @@ def _arrive(document: int, time: int, text: bytes) -> bytes:
     return b"arrive %d %d %d\n%b\n" % (document, time, len(text), text)
 
 
-def _expect(program: str, what: str, entries: Iterable[bytes], script: bytes, shown: bytes) -> None:
-    """With these entries in its journal the program shows this of a script."""
+def _expect(program: str, what: str, entries: Iterable[bytes], script: bytes, shown: bytes, first: int = 0) -> None:
+    """With these entries in its journal the program shows this of a script; and then an export of what is there, where it is asked for
+    from a number on."""
     with Folder(program) as folder:
         folder.journal.write_bytes(spell_journal(entries))
         outcome = folder.run(script)
         expect(outcome == Outcome(shown, "", 0), f"{what}: {outcome}, and not {shown!r}"[:2_000])
+        if first:
+            wanted = packets((entry for _, entry in read_journal(folder.journal.read_bytes())), first)
+            outcome = folder.run(b"--export %d\n" % first)
+            expect(outcome == Outcome(wanted, "", 0), f"{what}: an export from {first} ends with {outcome.status} {outcome.line!r}")
 
 
 def reach_limits(program: str, audit: str) -> str:
@@ -37,6 +42,7 @@ def reach_limits(program: str, audit: str) -> str:
         [],
         _arrive(1, 1, b"v" + bytes(TEXT)) + _arrive(1, 1, b"v" + bytes(TEXT - 1)) + b"find 1 v\n" + _arrive(2, 1, bytes(TEXT) + b"\xff"),
         b"no 5 TooLong 4194304\nok 1\nhit 1 1\nend 1 read 1\nno 5 TooLong 4194304\n",
+        1,
     )
     four, items = [_arrive(document, 2, bytes(TEXT)) for document in range(4)], 1_000
     _expect(
@@ -50,6 +56,7 @@ def reach_limits(program: str, audit: str) -> str:
         b"no 17 BatchTooLong 16777216\nno 5 TooLong 4194304 in 1\nok 2\nok 3\nno 1 Line\n"
         + b"".join(b"hit %d 1\n" % at for at in range(items))
         + b"end %d read %d\n" % (items, items),
+        1,
     )
     _expect(
         program,
@@ -59,6 +66,7 @@ def reach_limits(program: str, audit: str) -> str:
         b"format 2\nbatch 2\ndelete 0 5\narrive 1048576 5 1\nv\nbatch 2\ndelete 0 5\narrive 0 6 1\nv\n",
         b"no 10 Full documents 1048576\nok 1048577\nok 1048578\nok 1048579\nno 10 Full documents 1048576\nhit 1048575 1\nend 1 read 1\n"
         b"ok 1048580\nno 10 Full documents 1048576 in 2\nok 1048581\n",
+        1_000_000,
     )
     _expect(
         program,

@@ -9,7 +9,7 @@ import re
 from dataclasses import dataclass, field
 from typing import Iterator
 
-from model import OPEN
+from model import OPEN, Outcome, read_journal
 from scripts import Folder
 
 from attacks.rig import RUNS, Whole, expect
@@ -97,8 +97,8 @@ class Record:
 
 
 def lose_writes(program: str, audit: str, *, is_all: bool) -> str:
-    """The power fails behind each call of some runs."""
-    chance, moments, images = random.Random(7), 0, 0
+    """The power fails behind each call of some runs, and of some of what is left once more, behind each call of the load that follows."""
+    chance, moments, images, again = random.Random(7), 0, 0, 0
     runs = [Whole.of(program, *run) for run in RUNS]
     scripts = [*runs, *(Whole.random(program, number) for number in range(10 if is_all else 3))]
     for whole in scripts:
@@ -113,15 +113,38 @@ def lose_writes(program: str, audit: str, *, is_all: bool) -> str:
                 for kind in 2 * FILLS if is_all else FILLS:
                     _check_failure(program, whole, record, kind, chance)
                     images += 1
+                    again += 0 if images % (7 if is_all else 120) else _fail_again(program, whole, record, kind, chance)
             is_read = [disk.left("new", chance) for disk in record.disks.values()] == [path.read_bytes() for path in files]
             expect(record.shown == whole.shown and is_read, "the record has not what the files and the replies are")
-    return f"{images} pairs of files that power failures behind {moments} calls of {len(scripts)} scripts may leave"
+    told = f"{images} pairs of files that power failures behind {moments} calls of {len(scripts)} scripts may leave"
+    return f"{told}, and {again} that others behind the calls of a load may leave of them"
+
+
+def _fail(folder: Folder, record: Record, kind: str, chance: random.Random) -> None:
+    """Puts what a power failure leaves into a folder."""
+    for name, disk in record.disks.items():
+        if disk.stable is not None or chance.randrange(2):
+            (folder.path / name).write_bytes(disk.left(kind, chance))
+
+
+def _fail_again(program: str, whole: Whole, record: Record, kind: str, chance: random.Random) -> int:
+    """The power fails a second time, behind each call of the load that follows: the same entries are left. Tells how often it fails."""
+    with Folder(program) as folder:
+        _fail(folder, record, kind, chance)
+        entries = read_journal(folder.files()[0])
+        again = Record({path.name: Disk(path.read_bytes() if path.exists() else None) for path in (folder.journal, folder.pages)}, record.shown)
+        outcome = folder.run_as([*RECORDER, program], b"")
+        expect(outcome == Outcome(b"", "", 0), f"a load behind a power failure: {outcome}")
+        for number, _ in enumerate(again.moments((folder.path / "calls").read_text()), 1):
+            for second in (kind, chance.choice(FILLS)):
+                left = read_journal(again.disks["archive.journal"].left(second, chance))
+                expect(left == entries, f"a power failure within the load behind another leaves {left}, and not {entries}")
+                _check_failure(program, whole, again, second, chance)
+    return 2 * number
 
 
 def _check_failure(program: str, whole: Whole, record: Record, kind: str, chance: random.Random) -> None:
     with Folder(program) as folder:
-        for name, disk in record.disks.items():
-            if disk.stable is not None or chance.randrange(2):
-                (folder.path / name).write_bytes(disk.left(kind, chance))
+        _fail(folder, record, kind, chance)
         what = f"a power failure of the script {whole.script!r}, behind the replies {record.shown!r}, which leaves `{kind}`"
         whole.check_next(folder, record.shown, what)

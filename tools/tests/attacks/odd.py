@@ -11,11 +11,11 @@ from itertools import product
 from pathlib import Path
 from typing import Callable
 
-from model import HEADER, Outcome
+from model import HEADER, Choice, Outcome, words_of
 from scripts import Folder
 
-from attacks.rig import AUDIT_FAULT, DISK_FAULT, NEXT_SCRIPT, RUNS, SAMPLE, SCRIPT, SINK_FAULT, SOURCE_FAULT
-from attacks.rig import Whole, ends, expect, nothing, some
+from attacks.rig import AUDIT_FAULT, DISK_FAULT, EXPORT, NEXT_SCRIPT, RUNS, SAMPLE, SCRIPT, SINK_FAULT, SOURCE_FAULT
+from attacks.rig import Whole, ends, expect, kinds, nothing, some
 
 DONE = Outcome(b"", "", 0)
 #: The length of a file that is nearly nothing but a hole.
@@ -38,8 +38,10 @@ def odd_files(program: str, audit: str) -> str:
                 if name == "archive.pages":
                     folder.journal.write_bytes(HEADER + b"\0")
                 make(folder.path / name)
-                outcome = folder.run(PLANNED)
-                expect((outcome.status, outcome.line) == (DISK_FAULT.status, DISK_FAULT.line), f"{name} is {what}: {outcome}")
+                for script in (EXPORT, PLANNED):
+                    outcome = folder.run(script)
+                    is_told = (outcome.status, outcome.line) == (DISK_FAULT.status, DISK_FAULT.line)
+                    expect(is_told and (script == PLANNED or not outcome.shown), f"{name} is {what}: {outcome} of {script!r}")
     for what in ("a link to a file", "a link to nothing"):
         with Folder(program) as folder:
             (folder.path / "other").mkdir()
@@ -49,7 +51,7 @@ def odd_files(program: str, audit: str) -> str:
                     path.resolve().touch()
             told, wanted = ends([audit], folder.path), Outcome(b"sound 0 0\n", "", 0) if what == "a link to a file" else AUDIT_FAULT
             expect(told == wanted, f"an audit where each file is {what}: {told}")
-            for script in (SCRIPT, NEXT_SCRIPT):
+            for script in (EXPORT, SCRIPT, EXPORT, NEXT_SCRIPT):
                 expect(not (difference := folder.difference(script)), f"each file is {what}: {difference}")
             expect(folder.journal.is_symlink() and folder.journal.resolve().is_file(), f"the journal is no more {what}")
     return f"{2 * len(refused)} files that are none, and 2 links to files"
@@ -62,11 +64,11 @@ def odd_folders(program: str, audit: str) -> str:
         gone.mkdir()
         outcome = ends([program], gone, preexec_fn=gone.rmdir)
         expect(outcome == DISK_FAULT, f"a program in a folder that was deleted: {outcome}")
-    whole, limits = Whole.of(program, some), range(4, 9)
-    for limit in limits:  # (3 are the streams, and what loads the program takes another)
+    wholes, limits = [Whole.of(program, some), Whole.of(program, kinds, EXPORT)], range(4, 9)
+    for whole, limit in product(wholes, limits):  # (3 are the streams, and what loads the program takes another)
         with Folder(program) as folder:
             whole.fill(folder)
-            outcome = folder.run_as(["/bin/sh", "-c", f'ulimit -n {limit}; exec "$0"', program], SCRIPT)
+            outcome = folder.run_as(["/bin/sh", "-c", f'ulimit -n {limit}; exec "$0" "$@"', program], whole.script)
             whole.check_cut(folder, outcome, [DISK_FAULT], f"a program that may have {limit} files open")
     with Folder(program) as folder:
         copy = folder.path / "program"
@@ -90,6 +92,8 @@ def sparse_files(program: str, audit: str) -> str:
         folder.was_cut = True
         for path in (folder.journal, folder.pages):
             os.truncate(path, SPARSE)
+        outcome = folder.run(EXPORT)
+        expect(outcome == folder.archive.run(EXPORT, Choice([], b"")), f"an export of an archive with a hole of 3 GB behind it: {outcome}")
         outcome = folder.run(NEXT_SCRIPT)
         with folder.journal.open("rb") as journal, folder.pages.open("rb") as pages:
             difference = folder.difference_of(NEXT_SCRIPT, outcome, journal.read(1 << 16), pages.read(1 << 16))
@@ -103,8 +107,9 @@ def sparse_files(program: str, audit: str) -> str:
 
 
 def odd_streams(program: str, audit: str) -> str:
-    """Streams that can't be read or written, or are closed. What was acknowledged stays. A sample doesn't ask for its input."""
-    wholes = Whole.of(program, some), Whole.of(program, nothing, SAMPLE)
+    """Streams that can't be read or written, or are closed. What was acknowledged stays. A sample and an export don't ask for their
+    input."""
+    wholes = Whole.of(program, some), Whole.of(program, nothing, SAMPLE), Whole.of(program, kinds, EXPORT)
     reader, writer = os.pipe()
     os.close(reader)
     root = os.open("/", os.O_RDONLY)
@@ -117,7 +122,7 @@ def odd_streams(program: str, audit: str) -> str:
             ("nobody reads standard output", {"stdout": writer}, SINK_FAULT),
         ]
         for whole, (what, streams, wanted) in product(wholes, tries):
-            wanted = whole.outcome if whole.script == SAMPLE and "stdin" in streams else wanted
+            wanted = whole.outcome if words_of(whole.script) and "stdin" in streams else wanted
             with Folder(program) as folder:
                 whole.fill(folder)
                 outcome = folder.run_as([program], whole.script, **streams)
@@ -131,12 +136,12 @@ def odd_streams(program: str, audit: str) -> str:
         **{"<&- 2>&-": Outcome(b"", "", 5), ">&- 2>&-": Outcome(b"", "", 6), "<&- >&- 2>&-": Outcome(b"", "", 5)},
     }
     for whole, words in product(wholes, closed):
-        wanted = closed.get(words.removeprefix("<&-").lstrip() if whole.script == SAMPLE else words, DONE)
+        wanted = closed.get(words.removeprefix("<&-").lstrip() if words_of(whole.script) else words, DONE)
         with Folder(program) as folder:
             whole.fill(folder)
             outcome = folder.run_as(["/bin/sh", "-c", f'exec "$0" "$@" {words}', program], whole.script)
             whole.check_cut(folder, outcome, [wanted], f"a program with {words}")
-    return f"{len(tries) + len(closed)} streams that can't be used, each by a script and by a sample"
+    return f"{len(tries) + len(closed)} streams that can't be used, each by a script, by a sample and by an export"
 
 
 def full_disks(program: str, audit: str, *, is_all: bool) -> str:
@@ -153,13 +158,13 @@ def full_disks(program: str, audit: str, *, is_all: bool) -> str:
         for limit in [*range(least, 1_600, 1 if is_all else 19), *range(4_096, pages + step, step)]:
             with Folder(program) as folder:
                 whole.fill(folder)
-                outcome = folder.run_as([program], script, preexec_fn=lambda: _limit(limit), restore_signals=False)
+                outcome = folder.run_as([program], script, preexec_fn=lambda: limit_files(limit), restore_signals=False)
                 whole.check_cut(folder, outcome, [DISK_FAULT], f"files of at most {limit} bytes")
                 count += 1
     return f"{count} limits of a file's size, " + _small_disks(program)
 
 
-def _limit(size: int) -> None:
+def limit_files(size: int) -> None:
     """In a process to be: no file may grow beyond a size, and a write that would fails."""
     signal.signal(signal.SIGXFSZ, signal.SIG_IGN)
     resource.setrlimit(resource.RLIMIT_FSIZE, (size, size))

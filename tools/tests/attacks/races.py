@@ -2,20 +2,24 @@
 
 from __future__ import annotations
 
+import fcntl
 import os
 import random
 import re
+import select
 import signal
 import subprocess
 import time
+from contextlib import contextmanager
+from typing import Callable, Iterator
 
-from model import Choice, Outcome, words_of
+from model import Choice, Outcome, packets, words_of
 from scripts import MOST_SECONDS, Folder
 
 from attacks.faults import CALL, FILES, Tracer
-from attacks.rig import SAMPLE, STREAMS, expect
+from attacks.rig import EXPORT, SAMPLE, STREAMS, expect, long_kinds, nothing
 
-ROUNDS, ROUNDS_OF_SAMPLES, STARTED = 40, 10, 6
+ROUNDS, ROUNDS_OF_SAMPLES, ROUNDS_OF_EXPORTS, STARTED = 40, 10, 10, 6
 #: What is shown of the longest sample. (The model takes minutes for it, and told the same once.)
 LONGEST = b"--generate 9999999999999999999 --count 100000\n"
 LONGEST_SHOWN = b"generated 100000 accepted 90008 refused 10000 hits 17 read 3517\nsound 8 13006\n"
@@ -47,7 +51,8 @@ def race(program: str, audit: str) -> str:
     for _ in range(ROUNDS_OF_SAMPLES):
         _race_samples(program)
     told = f"{ROUNDS} rounds of {STARTED} programs and 2 audits at one time: {worked} programs and {audited} audits worked"
-    return f"{told}; and {ROUNDS_OF_SAMPLES} of {STARTED} samples"
+    exports = _race_exports(program)
+    return f"{told}; {ROUNDS_OF_SAMPLES} of {STARTED} samples; and {ROUNDS_OF_EXPORTS} with {STARTED} exports, {exports} of which worked"
 
 
 def _race_samples(program: str) -> None:
@@ -63,6 +68,29 @@ def _race_samples(program: str) -> None:
         expect(not difference, f"a sample that is started with others: {difference}")
         allowed = [made[0][1], Outcome(b"", f"tt_archive: {HELD}", 11), folder.archive.run(SAMPLE, Choice([], b""))]
         expect(all(outcome in allowed for _, outcome in ended), f"samples that are started together end so: {ended}")
+
+
+def _race_exports(program: str) -> int:
+    """Starts programs and exports together. An export shows what was there between two of the programs. Tells how many exports worked."""
+    chance, worked = random.Random(7), 0
+    with Folder(program) as folder:
+        for number in range(1, ROUNDS_OF_EXPORTS + 1):
+            scripts = [*(_script(number, at) for at in range(2)), *[EXPORT] * STARTED]
+            started = [(it, subprocess.Popen([program, *words_of(it)], cwd=folder.path, **STREAMS)) for it in chance.sample(scripts, len(scripts))]
+            ended = []
+            for script, process in started:
+                shown, line = process.communicate(b"" if script == EXPORT else script, timeout=MOST_SECONDS)
+                ended.append((script, Outcome(shown, line.decode(), process.returncode)))
+            before = len(folder.archive.entries)
+            _check(folder, [it for it in ended if it[0] != EXPORT], number)
+            entries = folder.archive.entries
+            allowed = [packets(entries[:count], 1) for count in range(before, len(entries) + 1, len(_script(1, 0).splitlines()) // 2)]
+            for outcome in (outcome for script, outcome in ended if script == EXPORT and outcome.status != 11):
+                is_between = outcome.shown in allowed and (outcome.status, outcome.line) == (0, "")
+                expect(is_between, f"an export in round {number}, with {before} to {len(entries)} entries: {outcome}")
+                worked += 1
+    expect(worked > 0, f"in {ROUNDS_OF_EXPORTS} rounds no export worked")
+    return worked
 
 
 def _script(number: int, at: int) -> bytes:
@@ -87,25 +115,118 @@ def _check(folder: Folder, ended: list[tuple[bytes, Outcome]], number: int) -> i
     return len(worked)
 
 
+#: A batch of which a command is still to come, and a plan of which most pages are; each with what comes behind.
+BATCH_TO_COME = b"format 2\nbatch 2\narrive 8 50 3\nred\n", b"delete 8 51\nfind 50 red\n"
+PAGES_TO_COME = b"begin red guarantee 1/1\nshow 1 1\n", b"find 11 red\nverify\n"
+ARRIVALS = b"".join(b"arrive %d %d 3\nred\n" % (at, at) for at in range(1, 41))
+
+
 def refuse_beside(program: str, audit: str) -> str:
-    """Stops the longest sample amid its work. Who comes then is refused: it opens the journal alone, and reads, writes, pulls and shows
-    nothing. The sample goes on as if nobody had come, and tells a terminal of its work, since it takes more than a second."""
-    others = [(program, b"arrive 1 10 3\nred\n"), (program, SAMPLE), (audit, b"verify\n")]
+    """Stops programs amid their work. Who comes then is refused."""
+    held = [_refuse_beside_sample(program, audit), _refuse_beside_export(program, audit), _refuse_beside_locks(program)]
+    held += [_refuse_beside_script(program, audit, nothing, *BATCH_TO_COME), _refuse_beside_script(program, audit, _many, *PAGES_TO_COME)]
+    return f"{sum(held)} programs beside the longest sample, an export, locks, a batch and a plan's pages to come, each stopped amid its work"
+
+
+def _many(folder: Folder) -> None:
+    """A word in many documents, so that a plan of it takes many pages."""
+    expect(not (difference := folder.difference(ARRIVALS)), f"many arrivals: {difference}")
+
+
+def _refuse_others(folder: Folder, program: str, audit: str, what: str) -> int:
+    """Who comes beside a program that is stopped opens the journal alone, and reads, writes, pulls and shows nothing."""
+    others = [(program, b"arrive 1 10 3\nred\n"), (program, SAMPLE), (program, EXPORT), (audit, b"verify\n")]
+    left, names = folder.files(), {*os.listdir(folder.path), "calls", "script", "shown"}
+    for command, script in others:
+        outcome = Tracer(command, FILES).run(folder, script=script)
+        calls = set(CALL.findall((folder.path / "calls").read_text()))
+        is_held = outcome == Outcome(b"", f"{'tt_verify' if command == audit else 'tt_archive'}: {HELD}", 11)
+        expect(is_held and folder.pulled == 0 and folder.files() == left, f"{command} on {script!r} beside {what}: {outcome}")
+        expect(calls <= {"openat", "fcntl", "flock", "close"}, f"{command} on {script!r} beside {what} calls {calls}")
+        expect({*os.listdir(folder.path)} == names, f"{command} on {script!r} beside {what} leaves {os.listdir(folder.path)}")
+    return len(others)
+
+
+@contextmanager
+def _started(command: list[str], folder: Folder) -> Iterator[subprocess.Popen[bytes]]:
+    """A command in a folder. It is killed where it is still there at the end, stopped or not."""
+    with subprocess.Popen(command, cwd=folder.path, bufsize=0, **STREAMS) as process:
+        try:
+            yield process
+        finally:
+            process.kill()
+
+
+def _stop(process: subprocess.Popen[bytes]) -> None:
+    """Stops a program, and waits until it is stopped."""
+    process.send_signal(signal.SIGSTOP)
+    os.waitid(os.P_PID, process.pid, os.WSTOPPED | os.WEXITED | os.WNOWAIT)
+    expect(process.poll() is None, "a program is at its end before others come")
+
+
+def _refuse_beside_export(program: str, audit: str) -> int:
+    """Beside an export that waits for whoever reads it. It goes on as if nobody had come; killed, it leaves the lock to the next."""
+    with Folder(program) as folder:
+        long_kinds(folder)
+        whole, refused = packets(folder.archive.entries, 1), 0
+        for kills in (False, True):
+            with _started([program, *words_of(EXPORT)], folder) as process:
+                expect(bool(select.select([process.stdout], [], [], MOST_SECONDS)[0]), "an export shows nothing")
+                _stop(process)
+                refused += _refuse_others(folder, program, audit, "an export")
+                process.send_signal(signal.SIGKILL if kills else signal.SIGCONT)
+                shown, line = process.communicate(timeout=MOST_SECONDS)
+                is_right = whole.startswith(shown) if kills else shown == whole
+                is_right = is_right and (process.returncode, line) == (-9 if kills else 0, b"")
+                expect(is_right, f"an export beside which others came ends with {process.returncode} and {line!r}")
+            expect(not (difference := folder.difference(b"arrive 9 %d 3\nred\n" % (90 + kills))), f"behind an export: {difference}")
+            whole = packets(folder.archive.entries, 1)
+    return refused
+
+
+def _refuse_beside_locks(program: str) -> int:
+    """An export beside a lock of either kind, in a folder without Pages."""
+    with Folder(program) as folder:
+        folder.journal.touch()
+        with folder.journal.open("rb") as journal:
+            for kind in (fcntl.LOCK_EX, fcntl.LOCK_SH):
+                fcntl.flock(journal, kind)
+                outcome = folder.run(EXPORT)
+                expect(outcome == Outcome(b"", f"tt_archive: {HELD}", 11), f"an export beside a lock: {outcome}")
+                expect(folder.files() == [b"", b""] and not folder.pages.exists(), "an export beside a lock makes or changes a file")
+        expect(not (difference := folder.difference(EXPORT)), f"an export behind locks: {difference}")
+    return 2
+
+
+def _refuse_beside_script(program: str, audit: str, fill: Callable[[Folder], None], begun: bytes, rest: bytes) -> int:
+    """Beside a program that waits for the rest of its script."""
+    with Folder(program) as folder:
+        fill(folder)
+        with _started([program], folder) as process:
+            process.stdin.write(begun)
+            shown = os.read(process.stdout.fileno(), 1 << 16)
+            while shown.count(b"\n") < begun.count(b"\nshow ") + 1:
+                shown += os.read(process.stdout.fileno(), 1 << 16)
+            _stop(process)
+            refused = _refuse_others(folder, program, audit, f"a program that was given {begun!r}")
+            process.send_signal(signal.SIGCONT)
+            others, line = process.communicate(rest, timeout=MOST_SECONDS)
+        outcome = Outcome(shown + others, line.decode(), process.returncode)
+        expect(not (difference := folder.difference_of(begun + rest, outcome, *folder.files())), f"beside which others came: {difference}")
+    return refused
+
+
+def _refuse_beside_sample(program: str, audit: str) -> int:
+    """Beside the longest sample. It goes on as if nobody had come, and tells a terminal of its work, since it takes more than a second."""
     terminal, errors = os.openpty()
     with Folder(program) as folder:
         with subprocess.Popen([program, *words_of(LONGEST)], cwd=folder.path, stdout=subprocess.PIPE, stderr=errors) as process:
             try:
                 while process.poll() is None and len(folder.files()[0]) < 1 << 12:
                     time.sleep(0.001)
-                process.send_signal(signal.SIGSTOP)
-                stopped, left = time.monotonic(), folder.files()
-                expect(process.poll() is None, "the longest sample is at its end before others come")
-                for command, script in others:
-                    outcome = Tracer(command, FILES).run(folder, script=script)
-                    calls = set(CALL.findall((folder.path / "calls").read_text()))
-                    is_held = outcome == Outcome(b"", f"{'tt_verify' if command == audit else 'tt_archive'}: {HELD}", 11)
-                    expect(is_held and folder.pulled == 0 and folder.files() == left, f"{command} beside a sample: {outcome}")
-                    expect(calls <= {"openat", "fcntl", "flock", "close"}, f"{command} beside a sample calls {calls}")
+                _stop(process)
+                stopped = time.monotonic()
+                refused = _refuse_others(folder, program, audit, "the longest sample")
                 time.sleep(max(0, stopped + 1 - time.monotonic()))
                 process.send_signal(signal.SIGCONT)
                 outcome = Outcome(process.communicate(timeout=MOST_SECONDS)[0], "", process.returncode)
@@ -119,4 +240,4 @@ def refuse_beside(program: str, audit: str) -> str:
     os.close(terminal)
     os.close(errors)
     expect(re.fullmatch(rb"(%b)+\r\x1b\[K\$" % line, told), f"a sample of more than a second tells a terminal {told!r}")
-    return f"{len(others)} programs beside the longest sample, which is stopped amid its work"
+    return refused

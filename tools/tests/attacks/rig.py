@@ -11,7 +11,7 @@ from dataclasses import dataclass
 from pathlib import Path
 from typing import Callable
 
-from model import Archive, NotArchive, Outcome, words_of
+from model import HEADER, Archive, NotArchive, Outcome, words_of
 from scripts import MOST_SECONDS, Folder, Writer
 
 #: Changes of each kind and questions. No text of it has a line that looks like a reply.
@@ -148,6 +148,26 @@ plan w3 space 2/1 uniform
 find 100000 w2 and not w5
 verify
 """
+#: Behind changes and plans with a guarantee: the mark, batches, a text without words, and plans of the other kinds.
+KINDS_SCRIPT = b"""format 2
+batch 3
+arrive 1 5 4
+Red!
+delete 2 5
+arrive 7 6 0
+
+plan red space 2/1 uniform
+plan blue space 3/1 since 1
+batch 1
+arrive 2 8 10
+blue caf\xc3\xa9
+plan red guarantee 3/2
+arrive 4294967295 9 4
+\xf0\x9f\x8c\x89
+"""
+LONG_TEXT = b"arrive 9 10 300000\n" + b"red " + b"." * 299_996 + b"\n"
+#: Exports of all entries, and of those from one on that stands amid the others.
+EXPORT, EXPORT_REST = b"--export 1\n", b"--export 8\n"
 STREAMS = {"stdin": subprocess.PIPE, "stdout": subprocess.PIPE, "stderr": subprocess.PIPE}
 DISK_FAULT = Outcome(b"", "tt_archive: disk fault\n", 4)
 AUDIT_FAULT = Outcome(b"", "tt_verify: disk fault\n", 4)
@@ -155,6 +175,14 @@ NO_LOCKS = Outcome(b"", "tt_archive: this folder's file system has no locks\n", 
 SOURCE_FAULT = Outcome(b"", "tt_archive: source fault\n", 5)
 SINK_FAULT = Outcome(b"", "tt_archive: sink fault\n", 6)
 NO_MEMORY = Outcome(b"", "tt_archive: no memory\n", 12)
+
+
+def is_sample(script: bytes) -> bool:
+    return words_of(script)[:1] == ["--generate"]
+
+
+def is_export(script: bytes) -> bool:
+    return words_of(script)[:1] == ["--export"]
 
 
 class Wrong(Exception):
@@ -188,15 +216,16 @@ class Whole:
     outcome: Outcome
     entries: list[bytes]
     entries_before: int
+    files_before: list[bytes]
 
     @classmethod
     def of(cls, program: str, fill: Callable[[Folder], None], script: bytes = SCRIPT) -> Whole:
         with Folder(program) as folder:
             fill(folder)
-            before, again = len(folder.archive.entries), _filler(folder)
+            before, files, again = len(folder.archive.entries), folder.files(), _filler(folder)
             difference = folder.difference(script)
             expect(not difference, f"a run without faults: {difference}")
-            return cls(again, script, folder.outcome, folder.archive.entries, before)
+            return cls(again, script, folder.outcome, folder.archive.entries, before, files)
 
     @classmethod
     def random(cls, program: str, number: int) -> Whole:
@@ -220,10 +249,17 @@ class Whole:
         ends_so = outcome == self.outcome or any((outcome.status, outcome.line) == (it.status, it.line) for it in allowed)
         expect(ends_so, f"{what}: ends with {outcome.status} and {outcome.line!r}, having shown {outcome.shown!r}")
         expect(not words_of(self.script) or folder.pulled == 0, f"{what}: pulls {folder.pulled} bytes")
+        expect(not is_export(self.script) or self.is_spared(folder), f"{what}: an export changes a file")
         self.check_next(folder, outcome.shown, what)
 
+    def is_spared(self, folder: Folder) -> bool:
+        """Whether no byte is changed, but that a journal that is new may be begun."""
+        journal, pages = folder.files()
+        return [journal, pages] == self.files_before or (not self.entries and (HEADER + b"\0").startswith(journal) and not pages)
+
     def counts(self, shown: bytes) -> tuple[int, int]:
-        """How many entries there are at least and at most where this was shown. (A sample acknowledges all at once, by its lines.)"""
+        """How many entries there are at least and at most where this was shown. (A sample acknowledges all at once, by its lines; an
+        export finds and leaves the same.)"""
         if words_of(self.script):
             return len(self.entries) if shown else self.entries_before, len(self.entries)
         count = max(self.entries_before, acknowledged(shown))
@@ -241,7 +277,7 @@ class Whole:
         least, most = self.counts(shown)
         expect(least <= len(entries) <= most, f"{what}: {least} to {most} entries are to be there, and the journal has {len(entries)}")
         folder.was_cut = True
-        for script in [self.script, NEXT_OF_SAMPLE] if words_of(self.script) else [NEXT_SCRIPT]:
+        for script in [*filter(words_of, [self.script]), NEXT_OF_SAMPLE if is_sample(self.script) else NEXT_SCRIPT]:
             difference = folder.difference(script)
             expect(not difference, f"{what}: in the next run: {difference}")
             is_left = folder.outcome.status != 10 or folder.files() == [journal, pages]
@@ -289,6 +325,19 @@ def left(folder: Folder) -> None:
     expect(folder.pages.stat().st_size > pages, "a plan that was begun and not ended leaves no byte")
 
 
+def kinds(folder: Folder) -> None:
+    """An archive with entries of each kind, texts without words and replaced plans among them."""
+    some(folder)
+    expect(not (difference := folder.difference(KINDS_SCRIPT)), f"an archive to begin with: {difference}")
+    expect(len(folder.archive.entries) == 13, f"an archive with entries of each kind has {len(folder.archive.entries)}")
+
+
+def long_kinds(folder: Folder) -> None:
+    """The same with an entry behind it that is longer than what a pipe holds, and another."""
+    kinds(folder)
+    expect(not (difference := folder.difference(LONG_TEXT + b"delete 9 11\n")), f"an archive to begin with: {difference}")
+
+
 #: Archives to begin with, each with a script, that runs are cut short of.
 RUNS: list[tuple[Callable[[Folder], None], bytes]] = [
     *((nothing, SCRIPT), (some, SCRIPT), (some, BATCH_SCRIPT), (nothing, SAMPLE)),
@@ -296,6 +345,7 @@ RUNS: list[tuple[Callable[[Folder], None], bytes]] = [
 ]
 #: A sample that is refused.
 REFUSED = (left, SAMPLE)
+EXPORTS: list[tuple[Callable[[Folder], None], bytes]] = [(nothing, EXPORT), (kinds, EXPORT), (kinds, EXPORT_REST)]
 
 
 def has_tracer() -> bool:

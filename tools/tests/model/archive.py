@@ -13,8 +13,10 @@ from .base import MOST_WORDS, PAGE
 from .base import Broken, Differs, NoCommand, NotArchive, Refused
 from .firsts import Sheet, test_opened
 from .journal import BLOCKS, Batch, Change, Mark, Place, Plan, blocks_of, clipped, read_entry, read_journal, spell_journal, sublist
+from .options import words_of
+from .packets import packets
 from .plans import GUARANTEE, SINCE, UNIFORM, Line, Posting, near_postings, stretches, test_segments, test_width, told
-from .samples import PLANNED, sample_script, words_of
+from .samples import PLANNED, sample_script
 from .shares import MOST_ASKED, test_shares
 from .script import Item, count_of, document_of, factor_of, items, query_behind, time_of, tolerance_of
 from .words import Query, asks_for_any, keys, one_key
@@ -136,9 +138,12 @@ class Archive:
 
     def run(self, script: bytes, choice: Choice) -> Outcome:
         """Carries out a script, up to a reply that the program didn't show, and tells what it is to show. A script that isn't broken
-        brings a plan that was begun to its end. (Or a sample, which shows nothing of its replies.)"""
-        if words := words_of(script):
-            return self._generate(int(words[1]), int(words[3]), choice)
+        brings a plan that was begun to its end. (Or a sample, which shows nothing of its replies, or an export.)"""
+        match words_of(script):
+            case ["--generate", seed, "--count", count]:
+                return self._generate(int(seed), int(count), choice)
+            case ["--export", first]:
+                return Outcome(packets(self.entries, int(first)), "", 0)
         shown, self.asked, self.job = b"", [], None
         try:
             for item in items(script):

@@ -1,14 +1,9 @@
-"""What `--generate SEED --count COUNT` asks for. These words of the command line stand here in the place of a script."""
+"""What `--generate SEED --count COUNT` asks for."""
 
 from __future__ import annotations
 
 #: How many words a sample plans.
 PLANNED = 8
-
-
-def words_of(script: bytes) -> list[str]:
-    """The words of the command line that stand in the place of a script; none where it is one."""
-    return script.decode().split() if script.startswith(b"--generate ") else []
 
 
 def sample_script(seed: int, count: int) -> bytes:
