@@ -61,7 +61,7 @@ arrived = world_of one_arrival
 -- the first arrival is accepted
 accepted : Step (world_of []) (Command (Arrive (doc 7) ten (Bytes (codes "red a")))) (Accepted 1) arrived
 unfolding ucd_category caseless unicode_normalization chars encode is_utf8
-accepted = ((refl, refl), refl)
+accepted = ((refl, refl), refl, refl)
 
 -- a word in any case, and one that is no operator
 words : (read term_of (codes "RED") ≡ Ok (one (codes "red"))) × (read term_of (codes "And") ≡ Ok (one (codes "and")))
@@ -90,10 +90,10 @@ refused : Step arrived (Command (Find ten (codes "red or"))) (Refused (refusals.
 refused =
     let R : Result Query ℕ → Type 0 = λ r. IsRead term_of (codes "red or") r in
     let read = subst R red_or (is_read term_of (codes "red or")) in
-    ((refl, (Err 6, read, refl)), (Err 6, read, refl))
+    ((refl, (Err 6, read, refl)), (Err 6, read, refl), refl)
 
 shown : Step arrived (Command (Show (doc 7) ten)) (Version (Some (codes "red a"))) arrived × Step arrived (Command (Show (doc 7) nine)) (Version None) arrived
-shown = (((refl, refl), refl), ((refl, refl), refl))
+shown = (((refl, refl), refl, refl), ((refl, refl), refl, refl))
 
 -- the texts of the replies
 texts : (reply_text (Found (record { doc = doc 7; score = 1 } ∷ []) 1) ≡ codes "hit 7 1" ++ 10 ∷ codes "end 1 read 1" ++ 10 ∷ [])
@@ -169,13 +169,13 @@ is_red = refl
 
 -- what the archive is then: the word and the time are noted
 abbrev asked_for_red : World
-asked_for_red = record { history = one_arrival; asked = (record { word = red; at = ten }) ∷ [] }
+asked_for_red = record { history = one_arrival; asked = (record { word = red; at = ten }) ∷ []; job = None }
 
 found : Step arrived (Command (Find ten (codes "red"))) (Found (hit ∷ []) 1) asked_for_red
 found =
     let R : Result Query ℕ → Type 0 = λ r. IsRead term_of (codes "red") r in
     let read = subst R is_red (is_read term_of (codes "red")) in
-    ((refl, (Ok (one red), read, (hit ∷ [], 1, one_row, (1, 0, (posting ∷ [], one_posting, refl), refl, refl), refl))), (Ok (one red), read, refl))
+    ((refl, (Ok (one red), read, (hit ∷ [], 1, one_row, (1, 0, (posting ∷ [], one_posting, refl), refl, refl), refl))), (Ok (one red), read, refl), refl)
 
 -- the same over a window that ends while the version is alive: it has the word from its time on
 abbrev window : Span
@@ -251,4 +251,4 @@ one_span = record { ordered = tt; longest = λ r there. longest r there; covered
 spanned : Step arrived (Command (Between window (codes "red"))) (Spanned (span_row ∷ []) 1) arrived
 spanned =
     let R : Result Query ℕ → Type 0 = λ r. IsRead term_of (codes "red") r in
-    ((refl, (Ok (one red), subst R is_red (is_read term_of (codes "red")), (span_row ∷ [], 1, one_span, (1, 0, (posting ∷ [], one_posting, refl), refl, refl), refl))), refl)
+    ((refl, (Ok (one red), subst R is_red (is_read term_of (codes "red")), (span_row ∷ [], 1, one_span, (1, 0, (posting ∷ [], one_posting, refl), refl, refl), refl))), refl, refl)
