@@ -2,43 +2,43 @@
 use machine_mem::{CallKind, Fault, MemMachine};
 use machine_model::Image;
 use rows_rig::{
-    RowError, copy_image, expect_same, first_disk, machine_on, new_disk, read_image, run_with,
-    whole_images,
+    RowError, copy_image, expect_same, first_disk, machine_on, new_disk, put_byte, read_image,
+    run_with, whole_images,
 };
 use run_script::Status;
 use std::alloc::Global;
 
-/// Where the first gate of a journal lies.
-const FIRST_GATE: usize = 16;
+/// The numbers of the five records of the disk's journal, and where they lie in it, from behind their gate to the next
+/// one: four bytes for the length, and 14, 14, 13, 13 and 181 bytes.
+const RECORDS: [(u64, usize, usize); 5] = [
+    (1, 17, 35),
+    (2, 36, 54),
+    (3, 55, 72),
+    (4, 73, 90),
+    (5, 91, 276),
+];
 
-/// A gate that is open.
-const OPEN_GATE: u8 = 0xa5;
-
-/// Where the gate behind the record of this one lies.
-fn next_gate(journal: &[u8], gate: usize) -> usize {
-    let length = u32::from_be_bytes([
-        journal[gate + 1],
-        journal[gate + 2],
-        journal[gate + 3],
-        journal[gate + 4],
-    ]);
-    gate + 5 + length as usize
+/// Puts the packet of a record behind others: its number in 8 bytes, and its bytes.
+fn put_packet(
+    packets: &mut Vec<u8>,
+    journal: &[u8],
+    (number, start, end): (u64, usize, usize),
+) -> Result<(), RowError> {
+    let Some(record) = journal.get(start..end) else {
+        return Err(RowError::NoByte { at: end });
+    };
+    packets.extend_from_slice(&number.to_be_bytes())?;
+    packets.extend_from_slice(record)?;
+    Ok(())
 }
 
-/// The packets of a journal's records from a number on: each is its number in 8 bytes, and what stands
-/// between its gate and the next one.
+/// The packets of the journal's records from a number on.
 fn packets_of(alloc: Global, journal: &[u8], from: u64) -> Result<Vec<u8>, RowError> {
     let mut packets = Vec::new(alloc);
-    let mut gate = FIRST_GATE;
-    let mut number: u64 = 1;
-    while gate < journal.len() && journal[gate] == OPEN_GATE {
-        let next = next_gate(journal, gate);
-        if number >= from {
-            packets.extend_from_slice(&number.to_be_bytes())?;
-            packets.extend_from_slice(&journal[gate + 1..next])?;
+    for record in &RECORDS {
+        if record.0 >= from {
+            put_packet(&mut packets, journal, *record)?;
         }
-        gate = next;
-        number += 1;
     }
     Ok(packets)
 }
@@ -158,7 +158,7 @@ fn words_that_ask_for_no_export_touch_nothing(rt: HostRuntime) -> Result<(), Row
 fn a_journal_that_is_no_archives_is_told(rt: HostRuntime) -> Result<(), RowError> {
     let alloc = rt.alloc();
     let mut disk = first_disk(alloc)?;
-    disk.journal[3] = b'x';
+    put_byte(&mut disk.journal, 3, b'x')?;
     let (status, machine) = run_words(alloc, &disk, &["--export", "1"], &[])?;
     assert_eq!(rt; status, Status::NotArchive { at: 3 });
     assert!(rt; machine.shown().is_empty());
