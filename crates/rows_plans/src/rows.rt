@@ -6,6 +6,4 @@ mod realistic;
 mod refusals;
 mod replies;
 mod spaces;
-mod step_stops;
-mod steps;
 mod words;

@@ -1,0 +1,3 @@
+//! The rows, by what they ask of the program.
+mod steps;
+mod stops;
