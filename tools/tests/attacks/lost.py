@@ -113,7 +113,7 @@ def lose_writes(program: str, audit: str, *, is_all: bool) -> str:
                 for kind in 2 * FILLS if is_all else FILLS:
                     _check_failure(program, whole, record, kind, chance)
                     images += 1
-                    again += 0 if images % (7 if is_all else 120) else _fail_again(program, whole, record, kind, chance)
+                    again += 0 if images % (7 if is_all else 300) else _fail_again(program, whole, record, kind, chance)
             is_read = [disk.left("new", chance) for disk in record.disks.values()] == [path.read_bytes() for path in files]
             expect(record.shown == whole.shown and is_read, "the record has not what the files and the replies are")
     told = f"{images} pairs of files that power failures behind {moments} calls of {len(scripts)} scripts may leave"
