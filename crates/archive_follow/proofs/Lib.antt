@@ -1,0 +1,4 @@
+mod TakenLemmas
+mod RefusalLemmas
+mod BatchLemmas
+mod PutLemmas
