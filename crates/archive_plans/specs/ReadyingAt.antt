@@ -24,10 +24,10 @@ pub record IsReadyAt (plan : PlanEntry) (list : List Posting) (body : List ℕ) 
   pub plan_is : ready.stored.plan ≡ plan
   pub places_are : ready.prepared.places ≡ plan.places
   pub spelled : ready.prepared.spellings ≡ sublists_of plan list
-  pub each : AllZip IsFor plan.places (sublists_of plan list)
+  pub each : AllZip IsFor ready.prepared.places ready.prepared.spellings
   pub framed : ready.frame ≡ body
-  pub bytes_are : ready.bytes ≡ length body
-  pub fits : end + gate_bytes + length body ≤ limit_of Journal
+  pub bytes_are : ready.bytes ≡ length ready.frame
+  pub fits : end + gate_bytes + length ready.frame ≤ limit_of Journal
 
 -- why it isn't made ready: a place fails a test, or the journal has no room
 abbrev pub IsUntaken : PlanEntry → List Posting → List Extent → ℕ → ℕ → Type 0

@@ -19,7 +19,7 @@ use Rattle.run_taking.specs.declared.ended.Ended.TheVariants.{Conflict, Packet}
 abbrev pub RunsKeepToTheLeader : Type 0
 RunsKeepToTheLeader = (leader history : History) (end : Ended) (old new : MachineState) (pulls : List Pull) → CanBeFollowed leader
     → GoesOnFrom history leader → (f : Followed history end old new pulls) → (to_come : List ℕ)
-    → IsStreamOf (bodies_of leader) (f.pulled ++ to_come)
-    → ((j : ℕ) → j ≤ length f.outcomes → GoesOnFrom (state_after history f.outcomes j) leader)
+    → IsStreamOf (bodies_of leader) (f.ran.pulled ++ to_come)
+    → ((j : ℕ) → j ≤ length f.ran.outcomes → GoesOnFrom (state_after history f.ran.outcomes j) leader)
     × ((number place : ℕ) (kept got : Option ℕ) → end ≡ Conflict number place kept got → ⊥)
-    × ((at : ℕ) → end ≡ Packet at → (f.behind ≡ []) × (f.ended ≡ true) × (first true f.rest ≡ Bad))
+    × ((at : ℕ) → end ≡ Packet at → (f.ran.behind ≡ []) × (f.ran.ended ≡ true) × (first true f.ran.rest ≡ Bad))
