@@ -96,6 +96,15 @@ CameOf store at p (Err ends.Disk) old new archive_now numbered page = KeepsBy st
     ⊎ ((note : Note) × (next : Store) × StoreFollows store p note next × LeadsBy store next old new)
 CameOf store at p (Err end) old new archive_now numbered page = KeepsBy store old new × EndsFor store.history at p end
 
+-- the ends that come of a packet before its line is shown
+abbrev pub ComesOfPacket : Ended → Type 0
+ComesOfPacket ends.Disk = Unit {0}
+ComesOfPacket ends.Memory = Unit {0}
+ComesOfPacket (ends.Gap have got) = Unit {0}
+ComesOfPacket (ends.Conflict number place kept got) = Unit {0}
+ComesOfPacket (ends.Packet at) = Unit {0}
+ComesOfPacket other = ⊥
+
 -- a record of the same
 pub record IsAnswered (store : Store) (at : ℕ) (p : Framed) (result : Result (Unit {0}) Ended) (old new : DiskState) (archive_now : ArchiveState)
     (numbered : NumberedState) (page : List ℕ) : Type 0 where
