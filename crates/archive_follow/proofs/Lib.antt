@@ -2,3 +2,4 @@ mod TakenLemmas
 mod RefusalLemmas
 mod BatchLemmas
 mod PutLemmas
+mod FoundLemmas

@@ -140,6 +140,13 @@ end_of_change (Err (changes.Refused why)) = tt
 end_of_change (Err changes.Failed) = refl
 end_of_change (Err changes.Memory) = refl
 
+-- a change that was refused changes nothing, and so does an entry that may not come next
+pub not_next : (r : Result ℕ ChangeError) (P : Type 0) → ((why : Refusal) → r ≡ Err (changes.Refused why) → P) → as_taken r ≡ Err takes.NotNext → P
+not_next (Ok n) P same is = absurd cc
+not_next (Err (changes.Refused why)) P same is = same why refl
+not_next (Err changes.Failed) P same is = absurd cc
+not_next (Err changes.Memory) P same is = absurd cc
+
 pub end_of_batch : (r : Result ℕ BatchError) → IsEndOf (as_taken (plainly r)) (changed_all r)
 end_of_batch (Ok n) = refl
 end_of_batch (Err (batches.Refused why index)) = tt

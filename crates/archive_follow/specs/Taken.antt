@@ -49,14 +49,17 @@ pub record AfterTaking (tells uncalled : Type 0) (result : Result ℕ TakeEntryE
   -- where it is spent, it has the entries, the texts and the plans that it had; what it tells of words isn't claimed
   pub spent : (result ≡ Err takes.Memory) ⊎ (result ≡ Err takes.Failed) → IsSpentBut old new
 
+-- At Ok an archive that stood for a history stands for that and the entry, and tells how many entries there are.
+abbrev pub ComesBehind : History → List ℕ → Result ℕ TakeEntryError → ArchiveState → Type 0
+ComesBehind history body result new = IfOk result (λ n. (entry : Entry) × (body ≡ spelling entry) × StandsFor new (history ++ entry ∷ [])
+    × (n ≡ length history + 1))
+
 -- What an archive in hand says of an entry that was to be taken, for a history that it stood for, on any disk: it is not the next one exactly where
--- the bytes spell none that may be taken (but for want of memory), and then the archive stands for what it stood for; at Ok it stands for that and
--- the entry, and tells how many entries there are.
+-- the bytes spell none that may be taken (but for want of memory), and then the archive stands for what it stood for.
 pub record TakesBody (history : History) (body : List ℕ) (result : Result ℕ TakeEntryError) (new : ArchiveState) : Type 0 where
   pub refused : result ≡ Err takes.NotNext → (SpellsNext history body → ⊥) × StandsFor new history
   pub allowed : IsOk result ⊎ (result ≡ Err takes.Failed) → SpellsNext history body
-  pub stands : IfOk result (λ n. (entry : Entry) × (body ≡ spelling entry) × StandsFor new (history ++ entry ∷ [])
-      × (n ≡ length history + 1))
+  pub stands : ComesBehind history body result new
 
 -- The entry that the bytes spell comes behind what is stored: each live place keeps its bytes, a plan's places hold its sublists, and each image left
 -- since is as before the entry or after it.

@@ -1,10 +1,11 @@
 //! A plan of another archive is taken.
-ghost use Rattle.std.specs.Prelude.{◌≡◌, ◌↔◌, None, All, IfOk, IsTrue, option_map};
+ghost use Rattle.std.specs.Prelude.{◌≡◌, ◌↔◌, ◌≤◌, None, All, IfOk, IsTrue, option_map};
 ghost use Rattle.journal_entries.specs.PlanSpelling.{IsPlanEntry, plan_spelling};
 ghost use Rattle.model_archive.specs.Histories.{History};
+ghost use Rattle.model_archive.specs.Planning.{last_second};
 ghost use Rattle.archive_hand.specs.States.{AreInStepBy, Reaches, StandsFor};
 ghost use Rattle.archive_hand.specs.Stored.{Store};
-ghost use Rattle.archive_follow.specs.Taken.{AfterTaking, IsBeforeLive, IsFoundOf, IsProper, TakesBody, TakesBy, as_put};
+ghost use Rattle.archive_follow.specs.Taken.{AfterTaking, ComesBehind, IsBeforeLive, IsFoundOf, IsProper, TakesBody, TakesBy, as_put};
 
 use crate::error::TakeEntryError;
 use archive_entries::{Declined, are_many};
@@ -30,6 +31,7 @@ pub(crate) fn take_plan<D: Disk>(
     requires spelled { body.now ≡ plan_spelling plan }
     ensures only { D.Disk.only disk.old disk.new }
     ensures after { AfterTaking D.disk_tells (disk.new ≡ disk.old) result (D.disk disk.old) (D.disk disk.new) archive.old archive.new }
+    ensures stands { (h : History) → StandsFor archive.old h → ComesBehind h body.now result archive.new }
     ensures takes { (h : History) → StandsFor archive.old h → archive.old.job ≡ None → TakesBody h body.now result archive.new }
     ensures by_reads { D.disk_tells → (s : Store) → AreInStepBy (D.disk disk.old) archive.old s → s.job ≡ None
         → TakesBy s body.now result (D.disk disk.old) (D.disk disk.new) archive.new }
@@ -59,13 +61,7 @@ fn list_for(
     requires ranges { IsPlanEntry plan.now }
     ensures { (h : History) → StandsFor archive.now h → IfOk result (λ o. IsFoundOf h plan.now (option_map (λ l. l.items) o)) }
 {
-    let Some(last) = archive.directory().last() else {
-        return Ok(None);
-    };
-    if last < plan.horizon {
-        return Ok(None);
-    }
-    if is_before_live(archive, plan) {
+    if !is_past(archive, plan) || is_before_live(archive, plan) {
         return Ok(None);
     }
     let list = archive.list_until(alloc, &plan.word, plan.horizon)?;
@@ -84,6 +80,16 @@ fn list_for(
         plan.horizon,
     )?;
     Ok(if good { Some(list) } else { None })
+}
+
+/// Whether a plan's horizon isn't after the last time. Constant cost.
+fn is_past(archive: &Archive, plan: &PlanEntry) -> bool
+    ensures { (h : History) → StandsFor archive.now h → IsTrue result ↔ (plan.now.horizon.seconds ≤ last_second h) }
+{
+    match archive.directory().last() {
+        Some(last) => plan.horizon <= last,
+        None => plan.horizon.seconds() == 0,
+    }
 }
 
 /// Whether a plan's horizon lies before that of its word's live plan. Costs the plans in front of that.
