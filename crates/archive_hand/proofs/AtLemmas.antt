@@ -8,8 +8,7 @@ use Rattle.journal_entries.specs.Spelling.{spelling}
 use Rattle.journal_entries.specs.declared.entry.Entry.TheVariants.{Planned}
 use Rattle.journal_entries.specs.declared.place.Place.{Place}
 use Rattle.journal_entries.specs.declared.plan.PlanEntry.{PlanEntry}
-use Rattle.pages_sublists.specs.Preparing.{IsFor, extents, spellings}
-use Rattle.pages_sublists.specs.Segments.{seconds}
+use Rattle.pages_sublists.specs.Preparing.{IsFor, extents}
 use Rattle.model_archive.specs.declared.stored.StoredPlan.{StoredPlan}
 use Rattle.model_archive.specs.Histories.{History, end_of}
 use Rattle.model_archive.specs.Legal.{IsLegalEntry}
@@ -21,11 +20,14 @@ use Rattle.model_archive.proofs.LiveLemmas.{live_plans-push}
 use Rattle.archive_plans.specs.Shelves.{ShelfState, extents_all}
 use Rattle.archive_plans.specs.ReadyingAt.{IsReadyAt, sublists_of}
 use Rattle.archive_plans.specs.declared.readying.Ready.{Ready}
-use Rattle.archive_hand.specs.Jobs.{IsUnderWay, places_of}
-use Rattle.archive_hand.specs.States.{ArchiveState, StandsFor}
+use Rattle.machine_model.specs.States.{DiskState}
+use Rattle.journal_gates.specs.InStep.{IsInStep}
+use Rattle.model_archive.specs.Stands.{bodies_of}
+use Rattle.archive_hand.specs.Jobs.{places_of, plain_job}
+use Rattle.archive_hand.specs.States.{ArchiveState, AreInStepBy, CacheStands, StandsFor}
+use Rattle.archive_hand.specs.Stored.{Store}
 use Rattle.archive_hand.specs.Storing.{IsStorable}
 use Rattle.archive_hand.specs.StoringAt.{HasOwnPlaces}
-use Rattle.archive_hand.specs.declared.job.Job.{Job}
 use Rattle.archive_hand.proofs.JobLemmas.{apart_without, under_way_planned}
 use Rattle.archive_hand.proofs.StoreLemmas.{after_plan, stands_stored}
 
@@ -67,3 +69,18 @@ at_planned a h plan list body end last r shelf stands legal spelled at ready end
     let taken = subst (λ (l : List StoredPlan). HasTaken shelf.pages (places_of a.job ++ extents_all l)) plans pages in
     let waits = under_way_planned h own a.shelf.room shelf.room a.job shelf.pages taken room stands.under_way in
     subst (λ (p : PlanEntry). StandsFor (after_plan a last shelf) (h ++ Planned p ∷ [])) ready.plan_is (stands_stored a h r.stored r.frame last shelf a.job stands here framed gate ends placed pages waits)
+
+-- an archive in which nothing but the room on the shelf changed is in step as it was
+pub still_in_step : (d : DiskState) (a b : ArchiveState) (s : Store) → AreInStepBy d a s → StandsFor b s.history → b.end ≡ a.end → b.asked ≡ a.asked → b.shelf.cache ≡ a.shelf.cache → b.job ≡ a.job → CacheStands d b → AreInStepBy d b s
+still_in_step d a b s in_step stands end asked cache job cached = record {
+  stands = stands;
+  asked_are = asked ∙ in_step.asked_are;
+  journal = subst (λ (n : ℕ). IsInStep d n (bodies_of s.history)) (sym end) in_step.journal;
+  pages_are = in_step.pages_are;
+  kept_are = cache ∙ in_step.kept_are;
+  read_is = in_step.read_is;
+  job_is = ap plain_job job ∙ in_step.job_is;
+  live = in_step.live;
+  same = in_step.same;
+  cached = cached;
+}

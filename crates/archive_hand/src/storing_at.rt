@@ -18,6 +18,7 @@ ghost use Rattle.archive_hand.specs.StoringAt.{HasOwnPlaces, IsPutBy};
 
 use crate::archive::Archive;
 use crate::storing::write_ready;
+use archive_entries::Declined;
 use archive_plans::{Untaken, ready_at};
 use base_types::Posting;
 use journal_entries::PlanEntry;
@@ -98,7 +99,7 @@ impl Archive {
             Ok(ready) => ready,
             Err(Untaken::NoRoom) => return Err(PutError::NoRoom),
             Err(Untaken::Memory) => {
-                self.live = false;
+                self.give_up(Declined::Memory);
                 return Err(PutError::Memory);
             }
         };
