@@ -1,0 +1,4 @@
+mod PacketLemmas
+mod ShownLemmas
+mod ServeLemmas
+mod StandLemmas
