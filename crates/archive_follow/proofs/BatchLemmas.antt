@@ -1,9 +1,9 @@
 -- A batch may be taken exactly where nothing refuses it as a batch of items.
-use Rattle.std.proofs.Common.{◌≡◌, ◌⊎◌, ℕ, ◌+◌, ◌<◌, ◌≤◌, Bool, true, false, nat_lt, List, [], ◌∷◌, ◌++◌, length, map, sum_by, All, Option, Some, None, Result, Ok, Err, IsOk, IfOk, inl, inr, refl, ap, sym, subst, ◌∙◌, arith, length-append}
+use Rattle.std.proofs.Common.{◌≡◌, ◌⊎◌, ℕ, ◌+◌, ◌<◌, ◌≤◌, Bool, true, false, nat_lt, List, [], ◌∷◌, ◌++◌, length, map, take, get_or, sum_by, All, Option, Some, None, Result, Ok, Err, IsOk, IfOk, inl, inr, refl, ap, sym, subst, ◌∙◌, arith, length-append}
 use Rattle.std.specs.List.{flat_map}
 use Rattle.std.specs.Option.{option_map}
 use Rattle.std.proofs.lemmas.Bool.{false≢true, ltb-false}
-use Rattle.std.proofs.lemmas.List.{length-map}
+use Rattle.std.proofs.lemmas.List.{length-map, map-append, take_more}
 use Rattle.std.proofs.lemmas.List.Elements.{All-head, All-nil, All-cons, All-tail}
 use Rattle.std.proofs.lemmas.Str.{is_utf8-from_IsUtf8}
 use Rattle.base_commands.specs.Batches.{texts_bytes}
@@ -28,7 +28,7 @@ use Rattle.model_archive.proofs.BatchLemmas.{first_step, none_found}
 use Rattle.model_archive.proofs.OutcomeLemmas.{command_keeps}
 use Rattle.archive_hand.proofs.ByReadsLemmas.{one_entry as same_entry}
 use Rattle.archive_hand.specs.Stored.{Stocks, Store, TellsNoEntry}
-use Rattle.archive_hand.specs.States.{ArchiveState}
+use Rattle.archive_hand.specs.States.{ArchiveState, AreInStepBy, StandsFor}
 use Rattle.archive_hand.specs.declared.error.ChangeError.{ChangeError}
 use Rattle.archive_hand.specs.declared.error.ChangeError.TheVariants as changes
 use Rattle.archive_changes.specs.Adding.{Adds, AddsAll}
@@ -38,7 +38,15 @@ use Rattle.archive_changes.specs.declared.error.BatchError.TheVariants as batche
 use Rattle.model_follow.specs.Taking.{MayBeTaken}
 use Rattle.archive_follow.specs.Taken.{item_by}
 use Rattle.archive_follow.proofs.RefusalLemmas.{has_room, last_none, not_bad, not_full, not_long}
-use Rattle.archive_follow.proofs.TakenLemmas.{AddsOrNot}
+use Rattle.machine_model.specs.States.{DiskState}
+use Rattle.base_commands.specs.declared.command.Item.TheVariants as given
+use Rattle.journal_entries.specs.Spelling.{spelling}
+use Rattle.archive_hand.specs.Takes.{TakesBy as CarriesBy}
+use Rattle.archive_changes.specs.Adding.{AddsBatch as AddsBatchOf}
+use Rattle.archive_changes.specs.Endings.{changed_all}
+use Rattle.archive_follow.specs.Taken.{TakesBody, TakesBy, as_taken}
+use Rattle.archive_follow.specs.declared.error.TakeEntryError.TheVariants as takes
+use Rattle.archive_follow.proofs.TakenLemmas.{AddsOrNot, end_of_batch, taken_by, takes_change}
 
 -- ---- the items that acts are
 
@@ -202,3 +210,44 @@ pub batch_or_not : (s next : Store) (batch : List Act) (o : Option Cause) (reply
     → AddsOrNot s (entries.Batch batch) reply next
 batch_or_not s next batch None reply adds job stocks = (job, stocks, inl (adds.0 ∙ ap (λ (l : List Act). s.history ++ entries.Batch l ∷ []) (acts_back batch)))
 batch_or_not s next batch (Some cause) reply adds job stocks = (job, stocks, inr (subst TellsNoEntry (sym adds.1) (told_none cause.why cause.index)))
+
+-- ---- acts one after another
+
+pub act_at : (batch : List Act) (i : ℕ) (act : Act) → i < length batch → act ≡ get_or batch i act → All IsAct batch → IsAct act
+act_at batch i act within is each = subst IsAct (sym is) (each i act within)
+
+pub act_short : (act : Act) → IsAct act → act_length act ≤ 4194304
+act_short (acts.Arrive doc at text) ranges = omega (arith, ranges.2)
+act_short (acts.Delete doc at) ranges = omega arith
+
+pub acts_taken : (batch : List Act) (i : ℕ) (act : Act) → i < length batch → act ≡ get_or batch i act → take (i + 1) batch ≡ take i batch ++ act ∷ []
+acts_taken batch i act within is = take_more batch i act within ∙ ap (λ (x : Act). take i batch ++ x ∷ []) (sym is)
+
+pub items_more : (batch : List Act) (i : ℕ) (act : Act) → i < length batch → act ≡ get_or batch i act → map item_by (take i batch) ++ item_by act ∷ [] ≡ map item_by (take (i + 1) batch)
+items_more batch i act within is = sym (ap (map item_by) (acts_taken batch i act within is) ∙ map-append item_by (take i batch) (act ∷ []))
+
+-- ---- what is known of a batch that was made
+
+why_none : (o : Option Cause) → option_map why_of o ≡ None → o ≡ None
+why_none None none = refl
+why_none (Some cause) none = absurd cc
+
+pub batch_takes : (h : History) (batch : List Act) (l : List BatchItem) (r : Result ℕ BatchError) (old new : ArchiveState) → IsBatch batch → l ≡ map item_by batch → StandsFor old h → ((why : Refusal) → plainly r ≡ Err (changes.Refused why) → new ≡ old)
+    → AddsBatchOf h (Items l) r new → TakesBody h (spelling (entries.Batch batch)) (as_taken (plainly r)) new
+batch_takes h batch l r old new ranges is stands same adds =
+    let e = entries.Batch batch in
+    let all = map item_by batch in
+    let cause = batch_cause h all in
+    let here : AddsAll h (entries.Batch (flat_map act_of all)) cause r new = subst (λ (items : List BatchItem). AddsBatchOf h (Items items) r new) is adds in
+    let back : AddsAll h e cause r new = subst (λ (b : List Act). AddsAll h (entries.Batch b) cause r new) (acts_back batch) here in
+    takes_change h e (spelling e) (option_map why_of cause) (plainly r) old new ranges refl (λ none. batch_may h batch ranges (why_none cause none)) (λ may. ap (option_map why_of) (batch_none h batch ranges may)) stands same
+    (adds_plain h e cause r new back)
+
+pub batch_by_reads : (s : Store) (batch : List Act) (l : List BatchItem) (r : Result ℕ BatchError) (d e : DiskState) (old new : ArchiveState) → IsBatch batch → l ≡ map item_by batch → AreInStepBy d old s
+    → (as_taken (plainly r) ≡ Err takes.NotNext → (new ≡ old) × (e ≡ d)) → CarriesBy s (given.Command (commands.Batch (Items l))) (changed_all r) d e new → TakesBy s (spelling (entries.Batch batch)) (as_taken (plainly r)) d e new
+batch_by_reads s batch l r d e old new ranges is in_step same carries =
+    let all = map item_by batch in
+    let b = entries.Batch batch in
+    taken_by s (given.Command (commands.Batch (Items all))) b (spelling b) (as_taken (plainly r)) (changed_all r) d e old new ranges refl
+    (λ reply next step. batch_or_not s next batch (batch_cause s.history all) reply step.0 step.1 step.2) (end_of_batch r) in_step same
+    (subst (λ (items : List BatchItem). CarriesBy s (given.Command (commands.Batch (Items items))) (changed_all r) d e new) is carries)

@@ -35,7 +35,8 @@ pub(crate) fn take_batch<D: Disk>(
     ensures by_reads { D.disk_tells → (s : Store) → AreInStepBy (D.disk disk.old) archive.old s
         → TakesBy s (spelling (entries.Batch acts.now)) result (D.disk disk.old) (D.disk disk.new) archive.new }
 {
-    if MOST_BATCH_BYTES < texts_bytes(acts.as_slice()) {
+    let bytes = texts_bytes(acts.as_slice());
+    if bytes > MOST_BATCH_BYTES {
         return Err(TakeEntryError::NotNext);
     }
     match items_of(alloc, acts.as_slice()) {

@@ -2,3 +2,4 @@ mod PacketLemmas
 mod ShownLemmas
 mod ServeLemmas
 mod StandLemmas
+mod StartLemmas

@@ -108,12 +108,10 @@ pub(crate) fn serve<M: Machine>(
     requires ready { CanGoOn (M.disk machine.old).reach archive.old bodies.old }
     ensures later { IsLater (state_by M.source M.sink M.disk machine.old) (state_by M.source M.sink M.disk machine.new) }
     ensures cause { MayEnd result (state_by M.source M.sink M.disk machine.old) (state_by M.source M.sink M.disk machine.new) }
-    ensures served { M.source_tells → M.sink_tells → M.disk_tells → (s : Store) →
-        Serving s (state_by M.source M.sink M.disk machine.old)
-        (state_by M.source M.sink M.disk machine.old) archive.old reader.old bodies.old [] →
+    ensures served { M.source_tells → M.sink_tells → M.disk_tells → (s : Store) (began : MachineState) →
+        Serving s began (state_by M.source M.sink M.disk machine.old) archive.old reader.old bodies.old [] →
         (pulls : List Pull) × M.asked machine.old pulls machine.new
-        × Serves s result (state_by M.source M.sink M.disk machine.old)
-        (state_by M.source M.sink M.disk machine.new) pulls }
+        × Serves s result began (state_by M.source M.sink M.disk machine.new) pulls }
 {
     'packets: loop {
         match step(alloc, machine, reader, archive, bodies, page) {
