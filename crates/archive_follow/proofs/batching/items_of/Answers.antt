@@ -1,0 +1,10 @@
+use Rattle.std.proofs.Common.{◌<◌, length, ap, sym, ◌∙◌, ◌++◌, ◌∷◌, [], List, map, take, rules}
+use Rattle.base_commands.specs.declared.batch.BatchItem.{BatchItem}
+use Rattle.archive_follow.specs.Taken.{item_by}
+use Rattle.archive_follow.proofs.BatchLemmas.{act_at, items_more}
+use Rattle.archive_follow.proofs.batching.items_of.Goals as goal
+
+pub item_of-requires : goal.item_of-requires
+item_of-requires c =
+    let within : c.loop-act.act-index < length c.args.acts.now = search rules in
+    act_at c.args.acts.now c.loop-act.act-index c.act-item.result within (search rules) c.requires.each
