@@ -1,6 +1,6 @@
 -- A plan of another archive, by its word's list up to its horizon: whether it may come next but for its places and the journal's room.
-use Rattle.std.proofs.Common.{◌≡◌, ◌↔◌, ℕ, zero, suc, ◌<◌, ◌≤◌, Bool, true, false, bytes_eq, cond, IsTrue, List, [], ◌∷◌, length, filter, take, get_or, All, Option, Some, None, IfSome, IsSomeAnd, option_map, unwrap_or, refl, ap, sym, subst, ◌∙◌, arith}
-use Rattle.std.proofs.lemmas.Bool.{not-true}
+use Rattle.std.proofs.Common.{◌≡◌, ◌↔◌, ℕ, zero, suc, ◌<◌, ◌≤◌, Bool, true, false, bytes_eq, cond, IsTrue, List, [], ◌∷◌, length, filter, take, get_or, All, Option, Some, None, IfSome, IsSomeAnd, option_map, unwrap_or, inl, inr, refl, ap, sym, subst, ◌∙◌, arith}
+use Rattle.std.proofs.lemmas.Bool.{cases_lt, not-true}
 use Rattle.std.proofs.lemmas.List.Elements.{All-head, All-tail}
 use Rattle.std.proofs.lemmas.Slice.Eq.{bytes_eq-Decides}
 use Rattle.base_types.specs.declared.posting.Posting.{Posting}
@@ -64,7 +64,7 @@ not_before h plan never = go (plan_of h plan.word) never
   where
     go : (o : Option PlanEntry) → (IsSomeAnd o (λ live. plan.horizon.seconds < live.horizon.seconds) → ⊥) → IfSome o (λ live. live.horizon.seconds ≤ plan.horizon.seconds)
     go None never = tt
-    go (Some live) never = omega (arith, never)
+    go (Some live) never = elim (cases_lt plan.horizon.seconds live.horizon.seconds) [ inl less ↦ absurd (never less) | inr more ↦ more ]
 
 before_never : (h : History) (plan : PlanEntry) → IsBeforeLive h plan → IsNotBefore h plan → ⊥
 before_never h plan before later = go (plan_of h plan.word) before later

@@ -1,6 +1,6 @@
 -- A run over packets: what was read so far, and how it ends.
 use Rattle.std.proofs.Common.{◌≡◌, ◌⊎◌, ℕ, ◌+◌, ◌<◌, ◌≤◌, ◌^◌, Bool, true, false, List, [], ◌∷◌, ◌++◌, length, map, All, Option, Some, None, Result, Ok, Err, inl, inr, refl, ap, sym, subst, ◌∙◌, arith, append_assoc}
-use Rattle.std.proofs.lemmas.List.{append-nil, length-append}
+use Rattle.std.proofs.lemmas.List.{append-nil, append_cancel_left, length-append}
 use Rattle.std.proofs.lemmas.List.Elements.{All-append, All-cons, All-map, All-nil, All-weaker}
 use Rattle.machine_model.specs.Images.{MayLeave}
 use Rattle.machine_model.specs.Areas.{Bytes}
@@ -260,7 +260,9 @@ ended_by store old now source archive held held_now numbered before lefts end se
           done = λ done. absurd (going done);
           after_lines = lines;
         };
+        mid = now.disk;
         carried = serving.carried;
+        closing = inl refl;
         steady = λ tells. stands_by now.disk archive (last_state store outcomes) serving.following.in_step;
       };
     }
@@ -335,6 +337,8 @@ stopped store old now source sink disk archive archive_now held held_now numbere
         done = λ done. absurd (going done);
         after_lines = lines;
       };
+      mid = disk;
+      closing = inl refl;
       carried = carried_none store outcomes old.sink.shown old.disk now.disk disk (beside ∙ serving.shown) serving.carried keeps;
       steady = λ tells. keeps_now s now.disk disk keeps;
     }
@@ -366,6 +370,8 @@ stopped store old now source sink disk archive archive_now held held_now numbere
             done = λ done. absurd (going done);
             after_lines = all_lines_on old.source old.sink packets (framed packet ∷ []) outcomes (o ∷ []) pulls lines;
           };
+          mid = disk;
+          closing = inl refl;
           carried = carried_joins (o ∷ []) disk serving.carried (subst (λ (l : List ℕ). Carried note_text StandsBy s (o ∷ []) l now.disk disk) serving.shown is.carried);
           steady = λ tells. absurd (quiet tells);
         }
@@ -387,3 +393,60 @@ stopped store old now source sink disk archive archive_now held held_now numbere
     go (ends.Conflict number at kept got) going ((keeps, still), is) = undone (ends.Conflict number at kept got) going (framed packet, [], refl, is) keeps still
     go (ends.Packet at) going ((keeps, still), is) = undone (ends.Packet at) going (inr (framed packet, [], refl, (is.0 ∙ place, is.1))) keeps still
     go other going ((keeps, still), is) = absurd is
+
+-- ---- the last line
+
+abbrev pub IsLast : Ended → Type 0
+IsLast ends.Done = Unit {0}
+IsLast ends.Sink = Unit {0}
+IsLast other = ⊥
+
+pub closed : (store : Store) (end : Ended) (old now : MachineState) (source : SourceState) (sink : SinkState) (disk : DiskState) (archive : ArchiveState) (held : PacketsState) (numbered : NumberedState) (pulls : List Pull) (line : List ℕ) → IsLast end → (serving : Serving store old now archive held numbered pulls)
+    → first held.ended held.bytes ≡ End → line ≡ length_text (length (last_state store serving.outcomes).history) → source ≡ now.source → OnlyShows now.disk disk now.sink.shown sink.shown → IsSameBeside now.disk disk → IsPrefix sink.shown (now.sink.shown ++ line)
+    → (end ≡ ends.Done → sink.shown ≡ now.sink.shown ++ line) → Serves store end old (record { source = source; sink = sink; disk = disk }) pulls
+closed store end old now source sink disk archive held numbered pulls line last serving at_end line_is still shows same front all =
+    let p = serving.pulling in
+    let outcomes = serving.outcomes in
+    let earlier = shown_by note_text outcomes in
+    let part = shows.grows.0 in
+    let text = length_text (length (last_state store outcomes).history) in
+    let rest : line ≡ part ++ front.0 = append_cancel_left now.sink.shown line (part ++ front.0) (front.1 ∙ ap (λ (l : List ℕ). l ++ front.0) shows.grows.1 ∙ append_assoc now.sink.shown part front.0) in
+    record {
+      ran = record {
+        pulled = p.pulled;
+        pulled_are = subst (λ (x : SourceState). old.source.left ≡ p.pulled ++ x.left) (sym still) p.pulled_are;
+        ended = held.ended;
+        ended_is = λ told. ap (λ (x : SourceState). x.left) still ∙ p.told told;
+        carried = p.packets;
+        behind = [];
+        rest = held.bytes;
+        proper = none_behind p.packets p.reads.proper;
+        split = subst (λ (l : List Framed). p.pulled ≡ stream l ++ held.bytes) (sym (append-nil p.packets)) p.reads.split;
+        outcomes = outcomes;
+        run = serving.run;
+        ends = at end last;
+        shown = earlier ++ part;
+        shown_is = shows.grows.1 ∙ ap (λ (l : List ℕ). l ++ part) serving.shown ∙ append_assoc old.sink.shown earlier part;
+        front = inr (refl, at_end, (front.0, ap (λ (l : List ℕ). earlier ++ l) (sym line_is ∙ rest) ∙ sym (append_assoc earlier part front.0)));
+        whole = λ tells. (part, refl);
+        done = λ done. ap (λ (l : List ℕ). earlier ++ l) (append_cancel_left now.sink.shown part line (sym shows.grows.1 ∙ all done) ∙ line_is);
+        after_lines = serving.after_lines;
+      };
+      mid = now.disk;
+      carried = serving.carried;
+      closing = inr (record {
+        goes_on = shows.goes_on;
+        images = λ image beside left.
+            let is = shows.since image beside left in (
+              is.1.0,
+              is.1.1 ∙ ap (λ (l : List ℕ). l ++ is.1.0) serving.shown ∙ append_assoc old.sink.shown earlier is.1.0 ,
+              stands_by now.disk archive (last_state store outcomes) serving.following.in_step image is.0,
+            );
+      });
+      steady = λ tells. stands_by disk archive (last_state store outcomes) (following_beside now.disk disk archive numbered (last_state store outcomes) same serving.following).in_step;
+    }
+  where
+    at : (e : Ended) → IsLast e → EndsAt e (last_state store serving.outcomes).history (length (stream serving.pulling.packets)) (length serving.pulling.pulled) held.ended [] held.bytes
+    at ends.Done last = (refl, at_end)
+    at ends.Sink last = tt
+    at other last = absurd last

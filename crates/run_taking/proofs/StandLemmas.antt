@@ -1,6 +1,6 @@
 -- A run by what reads give is one of the history, and what each image has of it.
-use Rattle.std.proofs.Common.{◌≡◌, ◌⊎◌, ℕ, ◌≤◌, Bool, List, [], ◌∷◌, ◌++◌, length, map, All, None, inl, inr, refl, ap, sym, subst, ◌∙◌}
-use Rattle.std.proofs.lemmas.List.{length-map, map-append}
+use Rattle.std.proofs.Common.{◌≡◌, ◌⊎◌, ℕ, ◌≤◌, Bool, List, [], ◌∷◌, ◌++◌, length, map, All, None, inl, inr, refl, ap, sym, subst, ◌∙◌, arith}
+use Rattle.std.proofs.lemmas.List.{length-map, map-append, take_all}
 use Rattle.std.proofs.lemmas.List.Elements.{All-weaker}
 use Rattle.machine_model.specs.Areas.{Bytes}
 use Rattle.machine_model.specs.Moments.{LeavesOnly}
@@ -16,17 +16,18 @@ use Rattle.model_archive.specs.Histories.{History, entry_refusal}
 use Rattle.model_archive.specs.Holding.{HoldsPlan, HoldsPlans}
 use Rattle.model_archive.specs.Legal.{IsLoadable}
 use Rattle.model_archive.specs.Plans.{live_extents}
-use Rattle.model_archive.specs.Runs.{IsRun, Outcome, Reopens, shown_by}
+use Rattle.model_archive.specs.Runs.{IsAcknowledged, IsRun, Outcome, Reopens, shown_by}
 use Rattle.model_archive.specs.Standing.{AreQuiet, Carried, StandsAlong, last_state}
 use Rattle.model_archive.specs.Stands.{EachStands, Stands, bodies_of}
 use Rattle.model_archive.proofs.HistoryLemmas.{entry_loads, loadable-push}
 use Rattle.model_archive.proofs.HoldLemmas.{held_alike, held_push, held_with}
-use Rattle.model_archive.proofs.RunLemmas.{reopens}
+use Rattle.model_archive.proofs.RunLemmas.{reopens, state_after_all}
+use Rattle.machine_model.proofs.MomentLemmas.{joined}
 use Rattle.plans_kinds.specs.Plans.{IsFitFor}
 use Rattle.archive_hand.specs.Stored.{EachStandsBy, StandsBy, Store, Stocks}
 use Rattle.model_follow.specs.Following.{Follows, Note, Had, Took, length_text, note_text}
 use Rattle.run_taking.specs.Following.{ComesAfterLines, EndsAt, Followed, Ran, SpellsIn, TellsAll}
-use Rattle.run_taking.specs.Serving.{Serves, StoreFollows}
+use Rattle.run_taking.specs.Serving.{IsClosing, Serves, StoreFollows}
 use Rattle.run_taking.specs.declared.ended.Ended.{Ended}
 
 -- ---- outcomes by the history alone
@@ -163,20 +164,52 @@ quiet P h (o ∷ outcomes) = (λ none. absurd (some o.reply none), quiet P o.nex
 
 -- ---- the whole run
 
+-- lines that are shown whole acknowledge all outcomes, whatever is shown behind them
+all_acknowledged : {S R : Type 0} (text : R → List ℕ) (outcomes : List (Outcome R S)) (shown part : List ℕ) → shown ≡ shown_by text outcomes ++ part → IsAcknowledged text outcomes shown (length outcomes)
+all_acknowledged text outcomes shown part is = record {
+  within = omega arith;
+  whole = (part, is ∙ ap (λ os. shown_by text os ++ part) (sym (take_all outcomes)));
+  greatest = λ m within front. within;
+}
+
+-- each image of the run, and of the last line, has what it should
+all_reopen : (P : History → Bytes → Type 0) (s : Store) (outcomes : List (Outcome Note Store)) (before : List ℕ) (old mid new : DiskState) → ((image : Bytes) (shown : List ℕ) → StandsAlong note_text StandsBy s outcomes image shown → StandsAlong note_text P s.history (map bare outcomes) image shown)
+    → ((image : Bytes) → StandsBy (last_state s outcomes) image → P (last_state s outcomes).history image) → Carried note_text StandsBy s outcomes before old mid → (new ≡ mid) ⊎ IsClosing s outcomes before mid new → LeavesOnly old new (Reopens note_text P s.history (map bare outcomes) before)
+all_reopen P s outcomes before old mid new along at carried closing = elim closing [
+  | inl same ↦ subst (λ (d : DiskState). LeavesOnly old d (Reopens note_text P s.history all before)) (sym same) early
+  | inr late ↦ joined (Reopens note_text P s.history all before) carried.goes_on early late.goes_on (λ image beside left.
+      let (part, is, stands) = late.images image beside left in
+      let shown = shown_by note_text outcomes ++ part in
+      record {
+        shown = shown;
+        shown_is = is;
+        k = length all;
+        acknowledged = all_acknowledged note_text all shown part (ap (λ (l : List ℕ). l ++ part) (sym (shown_bare outcomes)));
+        j = length all;
+        one_more = inl refl;
+        reached = omega arith;
+        holds = subst (λ (h : History). P h image) (sym (state_after_all s.history all ∙ last_bare s outcomes)) (at image stands);
+      })
+]
+  where
+    all : List (Outcome Note History)
+    all = map bare outcomes
+
+    early : LeavesOnly old mid (Reopens note_text P s.history all before)
+    early = reopens note_text P s.history all before old mid (quiet P s.history all) (record {
+      goes_on = carried.goes_on;
+      images = λ image beside left. let was = carried.images image beside left in (was.0, was.1, along image was.0 was.2);
+    })
+
 pub followed_by : (s : Store) (end : Ended) (old new : MachineState) (pulls : List Pull) → (EachStands old.disk s.history → IsHeld s) → Serves s end old new pulls → Followed s.history end old new pulls
 followed_by s end old new pulls held serves =
     let ran = serves.ran in
     let outcomes = ran.outcomes in
     record {
       ran = ran_bare s end old.source new.source old.sink new.sink pulls ran;
-      spelled = reopens note_text SpellsIn s.history (map bare outcomes) old.sink.shown old.disk new.disk (quiet SpellsIn s.history (map bare outcomes)) (record {
-        goes_on = serves.carried.goes_on;
-        images = λ image beside left. let was = serves.carried.images image beside left in (was.0, was.1, spells_along s outcomes image was.0 was.2);
-      });
-      images = λ stands. reopens note_text Stands s.history (map bare outcomes) old.sink.shown old.disk new.disk (quiet Stands s.history (map bare outcomes)) (record {
-        goes_on = serves.carried.goes_on;
-        images = λ image beside left. let was = serves.carried.images image beside left in (was.0, was.1, stands_along s ran.carried outcomes image was.0 ran.run (held stands) was.2);
-      });
+      spelled = all_reopen SpellsIn s outcomes old.sink.shown old.disk serves.mid new.disk (λ image shown on. spells_along s outcomes image shown on) (λ image stands. stands.spelled) serves.carried serves.closing;
+      images = λ stands. all_reopen Stands s outcomes old.sink.shown old.disk serves.mid new.disk (λ image shown on. stands_along s ran.carried outcomes image shown ran.run (held stands) on)
+          (λ image stands_by. stands_held (last_state s outcomes) image (last_held s ran.carried outcomes ran.run (held stands)) stands_by) serves.carried serves.closing;
       last_spelled = λ tells image allowed. subst (λ (h : History). SpellsIn h image) (sym (last_bare s outcomes)) (serves.steady tells image allowed).spelled;
       last = λ stands tells image allowed. subst (λ (h : History). Stands h image) (sym (last_bare s outcomes)) (stands_held (last_state s outcomes) image (last_held s ran.carried outcomes ran.run (held stands)) (serves.steady tells image allowed));
     }

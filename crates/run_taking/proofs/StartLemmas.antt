@@ -91,7 +91,9 @@ not_begun s end old new at quiet going source sink keeps beside = record {
     done = λ done. absurd (going done);
     after_lines = All-nil (ComesAfterLines old.source old.sink [] []);
   };
+  mid = new.disk;
   carried = none_carried s old.sink.shown old.disk new.disk beside keeps;
+  closing = inl refl;
   steady = λ tells. absurd (quiet tells);
 }
 

@@ -1,6 +1,7 @@
 -- A run that follows another archive, by what reads give, while it goes on and when it has ended.
 use Rattle.std.specs.Prelude.{◌≡◌, ◌⊎◌, ℕ, Bool, true, List, [], ◌∷◌, ◌++◌, ◌+◌, length, map, All, Option, Some, None, Result, Ok, Err, IsTrue}
 use Rattle.machine_model.specs.Areas.{Both}
+use Rattle.machine_model.specs.Moments.{GoesOn, LeavesOnly}
 use Rattle.machine_model.specs.Pulls.{Pull}
 use Rattle.machine_model.specs.Pushes.{IsPrefix}
 use Rattle.machine_model.specs.States.{DiskState, MachineState, SourceState}
@@ -148,10 +149,18 @@ pub record Serving (store : Store) (old now : MachineState) (archive : ArchiveSt
   pub following : IsFollowing now.disk archive numbered (last_state store outcomes)
   pub after_lines : All (ComesAfterLines old.source old.sink pulling.packets outcomes) pulls
 
+-- From this disk on only the last line was pushed, or a front of it: each image left since is of the last state.
+pub record IsClosing (store : Store) (outcomes : List (Outcome Note Store)) (before : List ℕ) (mid new : DiskState) : Type 0 where
+  pub goes_on : GoesOn mid new
+  pub images : LeavesOnly mid new (λ image beside. (part : List ℕ) × (beside ≡ before ++ (shown_by note_text outcomes ++ part))
+      × StandsBy (last_state store outcomes) image)
+
 -- A run that began from this state has ended so; with what each image left since stands along.
 pub record Serves (store : Store) (end : Ended) (old new : MachineState) (pulls : List Pull) : Type 0 where
   pub ran : Ran StoreFollows (λ s. s.history) store end old.source new.source old.sink new.sink pulls
-  pub carried : Carried note_text StandsBy store ran.outcomes old.sink.shown old.disk new.disk
+  pub mid : DiskState
+  pub carried : Carried note_text StandsBy store ran.outcomes old.sink.shown old.disk mid
+  pub closing : (new.disk ≡ mid) ⊎ IsClosing store ran.outcomes old.sink.shown mid new.disk
   pub steady : TellsAll end → EachStandsBy new.disk (last_state store ran.outcomes)
 
 -- There is no next packet, or one ended the run: at the end of the input the last line is to be shown.
