@@ -1,5 +1,5 @@
 -- A run over packets: what was read so far, and how it ends.
-use Rattle.std.proofs.Common.{◌≡◌, ◌⊎◌, ℕ, ◌+◌, ◌<◌, ◌≤◌, ◌^◌, Bool, true, false, List, [], ◌∷◌, ◌++◌, length, map, All, Option, Some, None, Result, Ok, Err, inl, inr, refl, ap, sym, subst, ◌∙◌, arith, append_assoc}
+use Rattle.std.proofs.Common.{◌≡◌, ◌⊎◌, ℕ, ◌+◌, ◌<◌, ◌≤◌, ◌^◌, Bool, true, false, List, [], ◌∷◌, ◌++◌, length, map, All, Option, Some, None, Result, Ok, Err, IfErr, MatchResult, inl, inr, refl, ap, sym, subst, ◌∙◌, arith, append_assoc}
 use Rattle.std.proofs.lemmas.List.{append-nil, append_cancel_left, length-append}
 use Rattle.std.proofs.lemmas.List.Elements.{All-append, All-cons, All-map, All-nil, All-weaker}
 use Rattle.machine_model.specs.Images.{MayLeave}
@@ -393,6 +393,19 @@ stopped store old now source sink disk archive archive_now held held_now numbere
     go (ends.Conflict number at kept got) going ((keeps, still), is) = undone (ends.Conflict number at kept got) going (framed packet, [], refl, is) keeps still
     go (ends.Packet at) going ((keeps, still), is) = undone (ends.Packet at) going (inr (framed packet, [], refl, (is.0 ∙ place, is.1))) keeps still
     go other going ((keeps, still), is) = absurd is
+
+-- a packet was carried out, or ended the run
+pub went_on : (store : Store) (old now : MachineState) (source : SourceState) (sink : SinkState) (disk : DiskState) (archive archive_now : ArchiveState) (held held_now : PacketsState) (numbered numbered_now : NumberedState) (before : List Pull) (lefts : List (List ℕ)) (packet : Packet) (result : Result (Unit {0}) Ended)
+    → IfErr result (λ end. end ≡ ends.Done → ⊥) → now.disk.now.beside ≡ now.sink.shown → (serving : Serving store old now archive held numbered before) → All (IsAwaited held.bytes now.source.left) lefts → Gives held held_now (Ok packet) now.source source
+    → IsCarriedOut (last_state store serving.outcomes) packet.at (framed packet) result now.sink.shown sink.shown now.disk disk archive_now numbered_now
+    → MatchResult result (λ _. Serving store old (record { source = source; sink = sink; disk = disk }) archive_now held_now numbered_now (before ++ pulls_beside now.sink.shown lefts))
+    (λ end. HasGoneOver store end old (record { source = source; sink = sink; disk = disk }) archive_now held_now numbered_now (before ++ pulls_beside now.sink.shown lefts))
+went_on store old now source sink disk archive archive_now held held_now numbered numbered_now before lefts packet (Ok done) going beside serving awaited gives out =
+    serving_next store old now source sink disk archive archive_now held held_now numbered numbered_now before lefts packet serving awaited gives out
+went_on store old now source sink disk archive archive_now held held_now numbered numbered_now before lefts packet (Err end) going beside serving awaited gives out = record {
+  closing = λ done. absurd (going done);
+  serves = λ other. stopped store old now source sink disk archive archive_now held held_now numbered numbered_now before lefts packet end going beside serving awaited gives out;
+}
 
 -- ---- the last line
 
