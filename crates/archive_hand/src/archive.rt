@@ -239,7 +239,7 @@ impl Archive {
         requires { IsTrue self.now.live }
         ensures { (h : History) × StandsFor self.now h }
     {
-        self.is_live();
+        let _ = &self.journal;
     }
 
     /// Notes that some words were asked for as of a time. An error leaves all as it was. Costs the words'

@@ -1,4 +1,4 @@
-use Rattle.std.proofs.Common.{◌≡◌, ℕ, ◌+◌, List, ◌∷◌, [], ◌++◌, length, Option, true, inl, inr, refl, ap, sym, subst, ◌∙◌, arith, rules}
+use Rattle.std.proofs.Common.{◌≡◌, ℕ, ◌+◌, List, ◌∷◌, [], ◌++◌, length, Option, Err, true, inl, inr, refl, ap, sym, subst, ◌∙◌, arith, rules}
 use Rattle.std.proofs.lemmas.Bool.{false≢true}
 use Rattle.machine_model.specs.declared.area.Area.TheVariants.{Journal, Pages}
 use Rattle.journal_entries.specs.declared.entry.Entry.TheVariants as entries
@@ -37,7 +37,7 @@ returns-in-Err-NoRoom-clause-refused g c = λ h stands is.
     let job = c.args.self.now.job in
     let taken = taken_same h c.args.self.now.shelf.room job stands.under_way in (
       subst (λ (n : ℕ). IsUntaken c.args.plan c.args.list.now (taken_in (plain_job job) h) n (length c.args.body.now)) (c.end.ensures.end ∙ ap (λ (s : ArchiveState). s.end) c.self.view_is)
-          (c.in-Err-NoRoom.ensures.refused (taken_in (plain_job job) h) (subst (HasTaken c.self.inside.shelf.pages) (ap (λ (o : Option Job). places_of o ++ live_extents h) (ap (λ (s : ArchiveState). s.job) c.self.view_is) ∙ taken) before.pages_are) refl),
+          (c.in-Err-NoRoom.ensures.refused (taken_in (plain_job job) h) (subst (HasTaken c.self.inside.shelf.pages) (ap (λ (o : Option Job). places_of o ++ live_extents h) (ap (λ (s : ArchiveState). s.job) c.self.view_is) ∙ taken) before.pages_are) (ap Err c.in-Err-NoRoom.field-0-is)),
       stands_still _ h c.ready_at.new.shelf before c.ready_at.ensures.plans (c.in-Err-NoRoom.ensures.none _ before.pages_are) (under_way_more h _ _ _ c.ready_at.ensures.more before.under_way),
     )
 
@@ -95,17 +95,17 @@ invariant_of-self-in-Ok-write_ready g c =
       is_sound _ (h ++ entries.Planned c.args.plan ∷ []) (planned g c h (stands_live c.args.self.now sound c.requires.live)),
     )
 
-pub invariant_of-self-in-Err-write_ready : goal.invariant_of-self-in-Err-write_ready
-invariant_of-self-in-Err-write_ready g c =
+pub invariant_of-self-in-Err : goal.invariant_of-self-in-Err
+invariant_of-self-in-Err g c =
     let a : ArchiveState = record { end = c.self.inside.journal.end; live = c.self.inside.live; length = c.self.inside.entries; changes = c.self.inside.directory.changes; index = state_of c.self.inside.index; shelf = c.self.inside.shelf; marked = c.self.inside.marked; asked = c.self.inside.asked; job = c.self.inside.job } in
     let h = c.self.invariant.2.0 in
     let stands = c.self.invariant.2.1 in
-    let spent = c.in-Err-write_ready.ensures.spent in (
+    let spent = c.in-Err.ensures.spent in (
       λ now. absurd (false≢true now),
       omega (arith, c.self.invariant.1, spent.0),
       (
         h,
-        still_but a h c.write_ready.new.journal.end c.write_ready.new.shelf stands spent.0 (spent.1 ∙ c.in-Ok.ensures.plans) (c.in-Err-write_ready.ensures.freed _ (c.in-Ok.ensures.taken _ stands.pages_are))
+        still_but a h c.write_ready.new.journal.end c.write_ready.new.shelf stands spent.0 (spent.1 ∙ c.in-Ok.ensures.plans) (c.in-Err.ensures.freed _ (c.in-Ok.ensures.taken _ stands.pages_are))
             (omega (arith, spent.3, c.ready_at.ensures.more)),
         λ now. absurd (false≢true now),
       ),
@@ -133,8 +133,8 @@ returns-in-Ok-write_ready-clause-placed g c = λ h now is.
     (at_own (plain_job c.self.inside.job) h c.args.plan c.args.list.now c.args.body.now c.end.result c.in-Ok.ready (c.end.ensures.end ∙ stands.end_is) c.requires.spelled c.in-Ok.ensures.ready
     (c.in-Ok.ensures.taken _ (subst (HasTaken c.self.inside.shelf.pages) (taken_same h _ c.self.inside.job stands.under_way) stands.pages_are)).apart)
 
-pub returns-in-Err-write_ready-clause-placed : goal.returns-in-Err-write_ready-clause-placed
-returns-in-Err-write_ready-clause-placed g c = λ h now is.
+pub returns-in-Err-clause-placed : goal.returns-in-Err-clause-placed
+returns-in-Err-clause-placed g c = λ h now is.
     let stands = subst (λ (s : ArchiveState). StandsFor s h) (sym c.self.view_is) now in
     subst (λ (s : ArchiveState). HasOwnPlaces (plain_job s.job) h c.args.plan c.args.list.now) c.self.view_is
     (at_own (plain_job c.self.inside.job) h c.args.plan c.args.list.now c.args.body.now c.end.result c.in-Ok.ready (c.end.ensures.end ∙ stands.end_is) c.requires.spelled c.in-Ok.ensures.ready
@@ -153,21 +153,21 @@ returns-in-Ok-write_ready-clause-cached g c = λ tells cached is.
     let apart = written_apart c.self.invariant.2.0 _ c.self.inside.job r.prepared (live_extents c.self.invariant.2.0) stands.under_way each (c.in-Ok.ensures.taken _ stands.pages_are).apart in
     both_stand c.write_ready.new.shelf.cache written now kept (c.in-Ok-write_ready.ensures.others tells written apart (written_part c.self.inside.shelf.cache written pages all))
 
-pub returns-in-Err-write_ready-clause-within : goal.returns-in-Err-write_ready-clause-within
-returns-in-Err-write_ready-clause-within g c =
-    let spent = c.in-Err-write_ready.ensures.spent in
+pub returns-in-Err-clause-within : goal.returns-in-Err-clause-within
+returns-in-Err-clause-within g c =
+    let spent = c.in-Err.ensures.spent in
     let only = g.met.D.Disk.only_reach c.args.disk.now c.write_ready.new.disk in (
       omega (arith, spent.0, c.requires.within.0, ap (λ (s : ArchiveState). s.end) c.self.view_is, only Journal c.write_ready.ensures.only),
       rw (spent.1 ∙ c.in-Ok.ensures.plans ∙ ap (λ (s : ArchiveState). s.shelf.plans) c.self.view_is) (inside_on _ _ _ (only Pages c.write_ready.ensures.only) c.requires.within.1),
       subst (λ (s : ArchiveState). ReachPages (g.D.Disk.disk c.write_ready.new.disk).reach.pages (written_of s.job)) (sym c.self.view_is) (reach_on _ _ _ (only Pages c.write_ready.ensures.only) c.requires.within.2),
     )
 
-pub returns-in-Err-write_ready-clause-spent : goal.returns-in-Err-write_ready-clause-spent
-returns-in-Err-write_ready-clause-spent g c = λ is.
+pub returns-in-Err-clause-spent : goal.returns-in-Err-clause-spent
+returns-in-Err-clause-spent g c = λ is.
     let h = c.self.invariant.2.0 in
     let stands = c.self.invariant.2.1 in
-    let spent = c.in-Err-write_ready.ensures.spent in
-    let pages = c.in-Err-write_ready.ensures.freed _ (c.in-Ok.ensures.taken _ stands.pages_are) in
+    let spent = c.in-Err.ensures.spent in
+    let pages = c.in-Err.ensures.freed _ (c.in-Ok.ensures.taken _ stands.pages_are) in
     let view = c.self.view_is in
     let shelf = same_shelf c.self.inside.shelf c.write_ready.new.shelf (places_of c.self.inside.job ++ live_extents h) (spent.1 ∙ c.in-Ok.ensures.plans) (omega (arith, spent.3, c.ready_at.ensures.more)) stands.pages_are pages (spent.2 ∙ c.in-Ok.ensures.cache) in
     record {
@@ -218,8 +218,8 @@ returns-in-Ok-write_ready-clause-puts g c = λ tells s now.
       ),
     )
 
-pub returns-in-Err-write_ready-clause-stops : goal.returns-in-Err-write_ready-clause-stops
-returns-in-Err-write_ready-clause-stops g c = λ tells s now is.
+pub returns-in-Err-clause-stops : goal.returns-in-Err-clause-stops
+returns-in-Err-clause-stops g c = λ tells s now is.
     let in_step = subst (λ (a : ArchiveState). AreInStepBy (g.D.Disk.disk c.args.disk.now) a s) (sym c.self.view_is) now in
     let h = s.history in
     let r = c.in-Ok.ready in
@@ -228,7 +228,7 @@ returns-in-Err-write_ready-clause-stops g c = λ tells s now is.
     let (legal, listed) = c.requires.legal h now.stands in
     let storable : IsStorable h plan r.prepared r.frame = subst (λ (p : PlanEntry). IsStorable h p r.prepared r.frame) ready.plan_is
         (at_storable h (places_of c.self.inside.job) plan c.args.list.now c.args.body.now c.end.result r legal listed c.requires.spelled ready (c.in-Ok.ensures.taken _ in_step.stands.pages_are).apart) in
-    elim (c.in-Err-write_ready.ensures.stops tells (bodies_of h) in_step.journal) [
+    elim (c.in-Err.ensures.stops tells (bodies_of h) in_step.journal) [
       | inl started ↦ inl (begun_keeps s plan r.prepared r.frame _ _ _ in_step storable started)
       | inr put ↦
           let there = put_there s plan r.prepared r.frame put.0 _ _ _ c.args.self.now in_step storable put.1 in
