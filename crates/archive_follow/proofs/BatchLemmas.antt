@@ -57,8 +57,8 @@ acts_back (acts.Delete doc at ∷ batch) = ap (λ (l : List Act). acts.Delete do
 
 pub texts_back : (batch : List Act) → texts_bytes (map item_by batch) ≡ sum_by act_length batch
 texts_back [] = refl
-texts_back (acts.Arrive doc at text ∷ batch) = grind (arith, texts_back batch)
-texts_back (acts.Delete doc at ∷ batch) = grind (arith, texts_back batch)
+texts_back (acts.Arrive doc at text ∷ batch) = ap (λ (n : ℕ). length text + n) (texts_back batch)
+texts_back (acts.Delete doc at ∷ batch) = ap (λ (n : ℕ). 0 + n) (texts_back batch)
 
 no_other : (index : ℕ) (batch : List Act) → first_other index (map item_by batch) ≡ None
 no_other index [] = refl
@@ -189,7 +189,7 @@ adds_plain h e cause (Err (batches.Refused why index)) new adds = record {
   stands = tt;
 }
   where
-    inner : (other : Refusal) → Err {ℕ} (changes.Refused why) ≡ Err (changes.Refused other) → why ≡ other
+    inner : (other : Refusal) → ◌≡◌ {A = Result ℕ ChangeError} (Err (changes.Refused why)) (Err (changes.Refused other)) → why ≡ other
     inner other is = cc
 adds_plain h e cause (Err batches.Failed) new adds = record {
   refused = λ why is. absurd cc;

@@ -47,11 +47,11 @@ spent_but old new s = record {
   live_is = s.live_is;
 }
 
-not_made : (error : ChangeError) → ((why : Refusal) → error ≡ changes.Refused why → ⊥) → IsMade {ℕ} (Err error) → ⊥
+not_made : (error : ChangeError) → ((why : Refusal) → error ≡ changes.Refused why → ⊥) → IsMade {T = ℕ} (Err error) → ⊥
 not_made error other (inl ok) = false≢true ok
 not_made error other (inr (why, is)) = other why (inner is)
   where
-    inner : Err {ℕ} error ≡ Err (changes.Refused why) → error ≡ changes.Refused why
+    inner : ◌≡◌ {A = Result ℕ ChangeError} (Err error) (Err (changes.Refused why)) → error ≡ changes.Refused why
     inner is = cc
 
 pub after_taken : (Spent : ArchiveState → ArchiveState → Type 0) (tells refused uncalled : Type 0) (r : Result ℕ ChangeError) (d e : DiskState) (old new : ArchiveState)
