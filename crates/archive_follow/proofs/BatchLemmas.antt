@@ -105,13 +105,13 @@ batch_may h batch is none =
     let A : Option Cause → Type 0 = λ o. AddsBatch h (entries.Batch (flat_map act_of all)) o (Accepted (length next)) next in
     let F : List Act → Type 0 = λ l. full_journal h (entries.Batch l) ≡ None in
     let step : AddsBatch h (entries.Batch (flat_map act_of all)) (batch_cause h all) (Accepted (length next)) next =
-        subst A (sym none) (ap (λ (l : List Act). h ++ entries.Batch l ∷ []) (sym (acts_back batch)), refl) in
+    subst A (sym none) (ap (λ (l : List Act). h ++ entries.Batch l ∷ []) (sym (acts_back batch)), refl) in
     let legal : Reached h next =
-        command_keeps (Reached h) (λ g x so entry. reach h g x so entry) [] None h (commands.Batch (Items all)) (Accepted (length next)) next (inl refl) (have_documents batch is) step in
+    command_keeps (Reached h) (λ g x so entry. reach h g x so entry) [] None h (commands.Batch (Items all)) (Accepted (length next)) next (inl refl) (have_documents batch is) step in
     let last : full_journal h (entries.Batch (flat_map act_of all)) ≡ None =
-        for_none (full_journal h (entries.Batch (flat_map act_of all)))
-        (last_none (for_all (old_format h) ∷ for_all (long_batch (texts_bytes all)) ∷ for_all (option_map (λ index. refusals.BatchLine index) (first_other 1 all)) ∷ items_cause h 1 all ∷ [])
-        (for_all (full_journal h (entries.Batch (flat_map act_of all)))) none) in
+    for_none (full_journal h (entries.Batch (flat_map act_of all)))
+    (last_none (for_all (old_format h) ∷ for_all (long_batch (texts_bytes all)) ∷ for_all (option_map (λ index. refusals.BatchLine index) (first_other 1 all)) ∷ items_cause h 1 all ∷ [])
+    (for_all (full_journal h (entries.Batch (flat_map act_of all)))) none) in
     record { legal = reached h e legal; placed = tt; fits = has_room h e (subst F (acts_back batch) last) }
 
 -- ---- where it is legal, nothing refuses it
@@ -129,9 +129,9 @@ causes_none before index (acts.Arrive doc at text ∷ batch) each none =
     let parts = none_found (act_refusal before a) (acts_refusal later batch ∷ []) none in
     let rest = none_found (acts_refusal later batch) [] parts.1 in
     let text_none : text_refusal (texts.Bytes text) ≡ None =
-        first_step (too_long text) (bad_text text ∷ []) (not_long text ranges.2) ∙ first_step (bad_text text) [] (not_bad text (is_utf8-from_IsUtf8 text ranges.3)) in
+    first_step (too_long text) (bad_text text ∷ []) (not_long text ranges.2) ∙ first_step (bad_text text) [] (not_bad text (is_utf8-from_IsUtf8 text ranges.3)) in
     let item_none : item_refusal before item ≡ None =
-        first_step (text_refusal (texts.Bytes text)) (act_refusal before a ∷ []) text_none ∙ first_step (act_refusal before a) [] parts.0 in
+    first_step (text_refusal (texts.Bytes text)) (act_refusal before a ∷ []) text_none ∙ first_step (act_refusal before a) [] parts.0 in
     first_step (option_map (in_item index) (item_refusal before item)) (items_cause later (index + 1) (map item_by batch) ∷ []) (ap (option_map (in_item index)) item_none)
     ∙ first_step (items_cause later (index + 1) (map item_by batch)) [] (causes_none later (index + 1) batch (All-tail IsAct a batch each) rest.0)
 causes_none before index (acts.Delete doc at ∷ batch) each none =

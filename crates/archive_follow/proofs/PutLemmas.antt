@@ -100,7 +100,7 @@ pub untaken_never : (h : History) (plan : PlanEntry) (list : List Posting) (end 
     → IsUntaken plan list (live_extents h) end bytes → MayBeTaken h (Planned plan) → ⊥
 untaken_never h plan list end bytes end_is long list_is (inl (why, other, fault)) may =
     let same : may.placed.list ≡ list =
-        one_list_of (λ doc t. frequency_at h plan.word (record { 0 = doc }) t) 0 plan.horizon.seconds may.placed.list list may.placed.list_is list_is in
+    one_list_of (λ doc t. frequency_at h plan.word (record { 0 = doc }) t) 0 plan.horizon.seconds may.placed.list list may.placed.list_is list_is in
     let each : AllZip IsFor plan.places (sublists_of plan list) = subst (λ (l : List Posting). AllZip IsFor plan.places (sublists_of plan l)) same may.placed.each in
     fault_never (live_extents h) plan.places (sublists_of plan list) why other each may.placed.apart fault
 untaken_never h plan list end bytes end_is long list_is (inr over) may = omega (arith, over, end_is, long, end_of-push h (Planned plan), may.fits)

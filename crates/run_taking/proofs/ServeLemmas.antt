@@ -134,7 +134,7 @@ run_long step state (e ∷ events) [] run = absurd run
 -- a pull in which no packet waited comes after the lines
 pull_after : (store : Store) (old now : MachineState) (archive : ArchiveState) (held : PacketsState) (numbered : NumberedState) (before : List Pull) → (serving : Serving store old now archive held numbered before) → (left : List ℕ)
     → IsAwaited held.bytes now.source.left left → ComesAfterLines old.source old.sink serving.pulling.packets serving.outcomes (record { left = left; shown = now.sink.shown })
-pull_after store old now archive held numbered before serving left (more, is, open) =
+pull_after store old now archive held numbered before serving left (more, is, waits) =
     let p = serving.pulling in
     record {
       pulled = p.pulled ++ more;
@@ -144,7 +144,7 @@ pull_after store old now archive held numbered before serving left (more, is, op
       packets_are = sym (append-nil p.packets);
       rest = held.bytes ++ more;
       split = ap (λ (l : List ℕ). l ++ more) p.reads.split ∙ append_assoc (stream p.packets) held.bytes more;
-      open_rest = open;
+      open_rest = waits;
       answered = serving.outcomes;
       not_yet = [];
       outcomes_are = sym (append-nil serving.outcomes);
@@ -233,7 +233,7 @@ ended_by store old now source archive held held_now numbered before lefts end se
     let lines = all_pulls store old now archive held numbered before lefts serving awaited in
     let earlier = shown_by note_text outcomes in
     let count : length p.pulled ≡ held.passed + length (held.bytes ++ gives.more) =
-        omega (arith, length-append serving.pulling.pulled gives.more, ap length serving.pulling.reads.split, length-append (stream serving.pulling.packets) held.bytes, serving.pulling.reads.before, length-append held.bytes gives.more) in
+    omega (arith, length-append serving.pulling.pulled gives.more, ap length serving.pulling.reads.split, length-append (stream serving.pulling.packets) held.bytes, serving.pulling.reads.before, length-append held.bytes gives.more) in
     record {
       closing = λ done. (
         record { pulling = p; outcomes = outcomes; run = serving.run; shown = serving.shown; carried = serving.carried; following = serving.following; after_lines = lines },
@@ -452,7 +452,7 @@ closed store end old now source sink disk archive held numbered pulls line last 
         images = λ image beside left.
             let is = shows.since image beside left in (
               is.1.0,
-              is.1.1 ∙ ap (λ (l : List ℕ). l ++ is.1.0) serving.shown ∙ append_assoc old.sink.shown earlier is.1.0 ,
+              is.1.1 ∙ ap (λ (l : List ℕ). l ++ is.1.0) serving.shown ∙ append_assoc old.sink.shown earlier is.1.0,
               stands_by now.disk archive (last_state store outcomes) serving.following.in_step image is.0,
             );
       });

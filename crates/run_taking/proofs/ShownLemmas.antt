@@ -54,7 +54,7 @@ in_step_beside old new archive s same in_step =
 pub following_beside : (old new : DiskState) (archive : ArchiveState) (numbered : NumberedState) (s : Store) → IsSameBeside old new → IsFollowing old archive numbered s → IsFollowing new archive numbered s
 following_beside old new archive numbered s same following =
     let was : AreIn (record new { past = old.past; now = old.now }).holds.journal (bodies_of s.history) numbered =
-        subst (λ (d : DiskState). AreIn d.holds.journal (bodies_of s.history) numbered) (sym same.same) following.bodies in
+    subst (λ (d : DiskState). AreIn d.holds.journal (bodies_of s.history) numbered) (sym same.same) following.bodies in
     record { in_step = in_step_beside old new archive s same following.in_step; idle = following.idle; bodies = was }
 
 -- the run ended before the line

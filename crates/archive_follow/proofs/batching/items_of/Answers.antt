@@ -1,7 +1,5 @@
-use Rattle.std.proofs.Common.{◌<◌, length, ap, sym, ◌∙◌, ◌++◌, ◌∷◌, [], List, map, take, rules}
-use Rattle.base_commands.specs.declared.batch.BatchItem.{BatchItem}
-use Rattle.archive_follow.specs.Taken.{item_by}
-use Rattle.archive_follow.proofs.BatchLemmas.{act_at, items_more}
+use Rattle.std.proofs.Common.{◌<◌, length, rules}
+use Rattle.archive_follow.proofs.BatchLemmas.{act_at}
 use Rattle.archive_follow.proofs.batching.items_of.Goals as goal
 
 pub item_of-requires : goal.item_of-requires

@@ -22,7 +22,7 @@ returns-clause-takes g c = λ h stands.
     let e = entries.Arrive c.args.doc c.args.at c.args.text.now in
     rw c.taken.ensures (takes_change h e (spelling e) (arrival_refusal h c.args.doc c.args.at c.args.text.now) c.arrive.result c.args.archive.now c.arrive.new.archive c.requires.ranges refl
     (arrival_may h c.args.doc c.args.at c.args.text.now c.requires.ranges) (arrival_none h c.args.doc c.args.at c.args.text.now) stands (λ why is. (c.arrive.ensures.after.same why is).0)
-    (subst (λ (t : List ℕ). Adds h (entries.Arrive c.args.doc c.args.at t) (arrival_refusal h c.args.doc c.args.at t) c.arrive.result c.arrive.new.archive) (c.as_bytes.ensures ∙ c.as_str.ensures) (c.arrive.ensures.adds h stands)))
+    (subst (λ (t : List ℕ). Adds h (entries.Arrive c.args.doc c.args.at t) (arrival_refusal h c.args.doc c.args.at t) c.arrive.result c.arrive.new.archive) (c.as_bytes.ensures.value ∙ c.as_str.ensures) (c.arrive.ensures.adds h stands)))
 
 pub returns-clause-by_reads : goal.returns-clause-by_reads
 returns-clause-by_reads g c = λ tells s in_step.
@@ -30,4 +30,4 @@ returns-clause-by_reads g c = λ tells s in_step.
     rw c.taken.ensures (taken_by s (items.Command (commands.Arrive c.args.doc c.args.at (texts.Bytes c.args.text.now))) e (spelling e) (as_taken c.arrive.result) (changed c.arrive.result) _ _ c.args.archive.now c.arrive.new.archive c.requires.ranges refl
     (λ reply next step. adds_or_not s next e (arrival_refusal s.history c.args.doc c.args.at c.args.text.now) reply step.0 step.1 step.2) (end_of_change c.arrive.result) in_step
     (not_next c.arrive.result _ (λ why is. let same = c.arrive.ensures.after.same why is in (same.0, ap g.D.Disk.disk same.1)))
-    (subst (λ (t : List ℕ). CarriesBy s (items.Command (commands.Arrive c.args.doc c.args.at (texts.Bytes t))) (changed c.arrive.result) (g.D.Disk.disk c.args.disk.now) (g.D.Disk.disk c.arrive.new.disk) c.arrive.new.archive) (c.as_bytes.ensures ∙ c.as_str.ensures) (c.arrive.ensures.by_reads tells s in_step)))
+    (subst (λ (t : List ℕ). CarriesBy s (items.Command (commands.Arrive c.args.doc c.args.at (texts.Bytes t))) (changed c.arrive.result) (g.D.Disk.disk c.args.disk.now) (g.D.Disk.disk c.arrive.new.disk) c.arrive.new.archive) (c.as_bytes.ensures.value ∙ c.as_str.ensures) (c.arrive.ensures.by_reads tells s in_step)))

@@ -1,4 +1,4 @@
-use Rattle.std.proofs.Common.{◌≡◌, ℕ, ◌+◌, List, ◌∷◌, [], ◌++◌, length, Option, Err, true, inl, inr, refl, ap, sym, subst, ◌∙◌, arith, rules}
+use Rattle.std.proofs.Common.{ℕ, ◌+◌, List, ◌∷◌, [], ◌++◌, length, Option, Err, true, inl, inr, refl, ap, sym, subst, ◌∙◌, arith, rules}
 use Rattle.std.proofs.lemmas.Bool.{false≢true}
 use Rattle.machine_model.specs.declared.area.Area.TheVariants.{Journal, Pages}
 use Rattle.journal_entries.specs.declared.entry.Entry.TheVariants as entries
@@ -192,7 +192,7 @@ returns-in-Ok-write_ready-clause-puts g c = λ tells s now.
     let (legal, listed) = c.requires.legal h now.stands in
     let pages = (g.D.Disk.disk c.write_ready.new.disk).holds.pages in
     let storable : IsStorable h plan r.prepared r.frame = subst (λ (p : PlanEntry). IsStorable h p r.prepared r.frame) ready.plan_is
-        (at_storable h (places_of c.self.inside.job) plan c.args.list.now c.args.body.now c.end.result r legal listed c.requires.spelled ready (c.in-Ok.ensures.taken _ in_step.stands.pages_are).apart) in
+    (at_storable h (places_of c.self.inside.job) plan c.args.list.now c.args.body.now c.end.result r legal listed c.requires.spelled ready (c.in-Ok.ensures.taken _ in_step.stands.pages_are).apart) in
     let put = c.in-Ok-write_ready.ensures.puts tells (bodies_of h) in_step.journal in
     let there = put_there s plan r.prepared r.frame pages _ _ _ (after g c) in_step storable put.0 in (
       with_entry s (entries.Planned plan) pages (after g c) (g.D.Disk.disk c.write_ready.new.disk),
@@ -227,7 +227,7 @@ returns-in-Err-clause-stops g c = λ tells s now is.
     let plan = c.args.plan in
     let (legal, listed) = c.requires.legal h now.stands in
     let storable : IsStorable h plan r.prepared r.frame = subst (λ (p : PlanEntry). IsStorable h p r.prepared r.frame) ready.plan_is
-        (at_storable h (places_of c.self.inside.job) plan c.args.list.now c.args.body.now c.end.result r legal listed c.requires.spelled ready (c.in-Ok.ensures.taken _ in_step.stands.pages_are).apart) in
+    (at_storable h (places_of c.self.inside.job) plan c.args.list.now c.args.body.now c.end.result r legal listed c.requires.spelled ready (c.in-Ok.ensures.taken _ in_step.stands.pages_are).apart) in
     elim (c.in-Err.ensures.stops tells (bodies_of h) in_step.journal) [
       | inl started ↦ inl (begun_keeps s plan r.prepared r.frame _ _ _ in_step storable started)
       | inr put ↦
