@@ -247,7 +247,7 @@ class Follows(Followed):
 
     def test_words_and_folders(self) -> None:
         self.assertIn("is a folder, or `ssh`, a host", self.here("follow", "a", "b", status=1).stderr)
-        self.assertIn("is a folder, or `ssh`, a host", self.here("follow", "ssh", "-v", "b", status=1).stderr)
+        self.assertIn("is a folder, or `ssh`, a host", self.here("follow", "--", "ssh", "-v", "b", status=1).stderr)
         self.assertIn("between two exports is 1s at least", self.follow("--every", "0", status=1).stderr)
         self.assertIn("can't follow itself", self.here("follow", self.replica, status=1).stderr)
         self.assertIn(f"tt: there is no folder {self.folder}/none\n", self.here("follow", self.folder / "none", status=1).stderr)
