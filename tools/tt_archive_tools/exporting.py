@@ -36,12 +36,15 @@ def export(options: argparse.Namespace) -> None:
     if not (folder / JOURNAL).exists():
         raise ToolError(f"{folder / JOURNAL} is gone")
     with locked(folder, claim) as lock:
-        tables = [(folder / name).read_bytes() if (folder / name).exists() else b"" for name in TABLES]
-        out = sys.stdout.buffer
+        tables, out = tables_of(folder), sys.stdout.buffer
         out.write(b"%d %d %d\n" % (reach(folder).entries, *map(len, tables)))
         out.writelines(tables)
         out.flush()
         patiently(partial(_run, command, folder, lock), claim)
+
+
+def tables_of(folder: Path) -> list[bytes]:
+    return [(folder / name).read_bytes() if (folder / name).exists() else b"" for name in TABLES]
 
 
 def check_alone(folder: Path) -> None:

@@ -20,7 +20,7 @@ from typing import BinaryIO, Iterator, NamedTuple
 
 from .differing import difference
 from .errors import InUse, NotBuilt, ToolError
-from .exporting import TABLES, check_alone
+from .exporting import TABLES, check_alone, tables_of
 from .feeding import Progress
 from .journal import Reach, bodies, reach
 from .locks import DOOR, Lock, Use, locked
@@ -113,8 +113,8 @@ class _Follower:
                 export.wait()  # this archive isn't held while the leader's is loaded
                 with locked(self._folder, self._claim) as lock:
                     took = self._feed(export, lock, before.entries)
-                    for name, table in zip(TABLES, export.tables):
-                        if not (self._folder / name).exists() or (self._folder / name).read_bytes() != table:
+                    for name, own, table in zip(TABLES, tables_of(self._folder), export.tables):
+                        if own != table:
                             replace_file(self._folder / name, table)
         except _Apart:
             raise self._difference() from None
@@ -176,9 +176,8 @@ class _Follower:
 
     def _difference(self) -> ToolError:
         """Tells the first entry in which the two archives differ. So the leader exports all that it has once more."""
-        names = (self._folder / TABLES[0]).read_bytes()
         with _Export(self._options, self._leader, 1) as export:
-            found = difference(bodies(self._folder), names, export.bodies(), export.tables[0])
+            found = difference(bodies(self._folder), tables_of(self._folder)[0], export.bodies(), export.tables[0])
             if (found is None or found.place is None) and (fault := export.fault()):
                 return _Later(fault)  # it had no time to write all that it has
         if found is None:
@@ -260,7 +259,7 @@ def _prepare(folder: Path) -> None:
     """A folder that isn't there, or is empty, becomes an archive."""
     if folder.is_dir() and any(folder.iterdir()):
         check_alone(folder)
-        if not (folder / JOURNAL).exists() and any((folder / name).stat().st_size for name in TABLES if (folder / name).exists()):
+        if not (folder / JOURNAL).exists() and any(tables_of(folder)):
             raise ToolError(f"{folder / JOURNAL} is gone")
         return
     folder.mkdir(parents=True, exist_ok=True)
