@@ -17,6 +17,7 @@ from unittest import mock
 from support import DAY, TOOLS, ArchiveCase, Done, Version, find_program, needs, sample
 from test_serving_turns import START, Served
 from tt_archive_tools import commands
+from tt_archive_tools.journal import reach
 
 FAKE = "fake_tt_archive" in os.environ.get("TT_ARCHIVE", "")
 #: Three segments are planned of two documents with one word.
@@ -259,11 +260,12 @@ class Follows(Followed):
         (self.replica / "own.txt").unlink()
         self.follow()
         self.assert_same()
-        for folder, other in ((self.archive, self.replica), (self.replica, self.archive)):
+        self.fill([Version(START, "first", "a text")])
+        for folder in (self.archive, self.replica):
+            (folder / "shard-0").mkdir()
             (folder / "shards.tsv").write_text("shard-0\n")
             self.assertIn("is split: `tt follow` is for one archive", self.follow(status=1).stderr)
             (folder / "shards.tsv").unlink()
-        self.fill([Version(START, "first", "a text")])
         self.follow()
         for folder in (self.archive, self.replica):
             (folder / "archive.journal").rename(self.folder / "kept")
@@ -341,9 +343,10 @@ class Stops(Followed):
     def assert_goes_on(self, least: int = 0) -> None:
         held = self.entries(self.replica)
         self.assertTrue(least <= held < self.entries(self.archive))
-        self.assertEqual((self.archive / "archive.journal").read_bytes()[: 17], (self.replica / "archive.journal").read_bytes()[:17])
+        journals = [(folder / "archive.journal").read_bytes()[: reach(self.replica).gate] for folder in (self.archive, self.replica)]
+        self.assertEqual(*journals)
         done = self.follow()
-        self.assertRegex(done.stdout, rf"^{self.entries(self.archive) - held} entries behind, and took them; has ")
+        self.assertRegex(done.stdout, rf"^{self.entries(self.archive) - held} entr(y|ies) behind, and took (it|them); has ")
         self.assert_same()
         shutil.rmtree(self.replica)
 
