@@ -439,7 +439,7 @@ class Apart(Followed):
             shutil.rmtree(folder, ignore_errors=True)
             run(folder, given=script)
         before = content(self.replica), content(self.archive)
-        said = self.follow("--every", "1s", status=1)
+        said = self.follow(status=1)
         self.assertEqual(said.stdout, "")
         first, *shown = said.stderr.splitlines()
         self.assertIn(told[0].replace("LEADER", str(self.archive)), first)
@@ -447,10 +447,10 @@ class Apart(Followed):
         self.assertEqual((content(self.replica), content(self.archive)), before)
 
     def test_texts(self) -> None:
-        same, later = commands.arrive(1, START, b"The first."), commands.delete(1, START + 2 * DAY)
+        same, later, own = commands.arrive(1, START, b"The first."), *(commands.delete(1, START + days * DAY) for days in (2, 3))
         one, other = (commands.arrive(7, START + DAY, b"The bridge is %b." % word) for word in (b"closed for repairs until the end of the summer", b"open"))
         self.assert_apart(
-            same + one + later, same + other + later, "tt: from its byte 27 on LEADER has another entry 2, so one of the two archives went its own way",
+            same + one + later, same + other + own, "tt: from its byte 27 on LEADER has another entry 2, so one of the two archives went its own way",
             "here   #7 at 2007-07-24: The bridge is open.", "there  #7 at 2007-07-24: The bridge is closed for repairs until the end of…",
         )  # fmt: skip
         long = b"An \xc3\xa9t\xc3\xa9 of words in a row, and of more of them: "

@@ -120,7 +120,8 @@ class _Follower:
             raise self._difference() from None
         self._held = reach(self._folder, before)
         if not self._options.quiet:
-            print(f"{counted(took, 'entry', 'entries')} behind, and took {'it' if took == 1 else 'them'}; {_told(self._held)}")
+            them = ", and took it" if took == 1 else ", and took them" if took else ""
+            print(f"{counted(took, 'entry', 'entries')} behind{them}; {_told(self._held)}")
 
     def _is_level(self, held: Reach) -> bool:
         """Whether the leader's journal has the last entry of this one at the same place, and none behind it. That is looked at
@@ -209,11 +210,14 @@ class _Export:
     def __enter__(self) -> _Export:
         """Returns when the leader is held: it then tells how many entries it has, and its tables."""
         try:
-            self.entries, *sizes = (int(word) if word.isdigit() else -1 for word in self.packets.readline().split() or [b""])
+            head = self.packets.readline()
+            self.entries, *sizes = (int(word) if word.isdigit() else -1 for word in head.split() or [b""])
             self.tables = [self._read(size) for size in sizes]
-            if len(sizes) != len(TABLES) or [*map(len, self.tables)] != sizes:
+            is_head = len(sizes) == len(TABLES)
+            if not is_head or [*map(len, self.tables)] != sizes:
                 self.packets.close()
-                raise _Later(self.fault() or f"{self._leader}: what its tt writes can't be read")
+                fault = self.fault() if is_head or not head else ""
+                raise _Later(fault or f"{self._leader}: what its tt writes can't be read")
         except BaseException:
             self.end()
             raise
