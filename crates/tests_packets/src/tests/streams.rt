@@ -88,27 +88,28 @@ fn long_bodies_are_read_whole(rt: HostRuntime) {
 /// The packets of 5 bytes and of none.
 const SHORT: &[Plain] = &[(1, b"abcde"), (2, b"")];
 
-/// Behind which bytes their stream is cut, the packets that are whole then, and where it is bad.
-const CUTS: [(usize, usize, &[Plain], Option<u64>); 5] = [
-    (0, 1, &[], None),
-    (1, 17, &[], Some(0)),
-    (17, 18, &[(1, b"abcde")], None),
-    (18, 29, &[(1, b"abcde")], Some(17)),
-    (29, 30, SHORT, None),
+/// The packet at the first byte is bad, and that at the byte 17.
+const BAD_AT_0: Answers<'static> = Answers::Refused(PacketError::Bad { at: 0 });
+
+const BAD_AT_17: Answers<'static> = Answers::Refused(PacketError::Bad { at: 17 });
+
+/// Behind which bytes their stream is cut, and what is answered: the packets that are whole then, and the end.
+const CUTS: [(usize, usize, &[Plain], Answers); 5] = [
+    (0, 1, &[], Answers::End),
+    (1, 17, &[], BAD_AT_0),
+    (17, 18, &[(1, b"abcde")], Answers::End),
+    (18, 29, &[(1, b"abcde")], BAD_AT_17),
+    (29, 30, SHORT, Answers::End),
 ];
 
 /// The stream, cut behind any of these bytes, gives these packets, and then is bad at a place, or ends.
-fn expect_cut(
+fn expect_cut<'x>(
     rt: &impl Abort,
     alloc: Global,
     bytes: &[u8],
     piece: usize,
-    (from, to, whole, bad_at): (usize, usize, &[Plain], Option<u64>),
+    (from, to, whole, end): (usize, usize, &'x [Plain<'x>], Answers<'x>),
 ) {
-    let end = match bad_at {
-        Some(at) => bad(at),
-        None => Answers::End,
-    };
     for cut in from..to {
         let front = bytes.get(..cut).expect(rt, "a front");
         expect_read(rt, alloc, front, piece, whole, end);
