@@ -116,14 +116,19 @@ fn expect_cut<'x>(
     }
 }
 
+/// The stream in pieces of so many bytes, cut behind each of them.
+fn expect_cuts(rt: &impl Abort, alloc: Global, bytes: &[u8], piece: usize) {
+    for cut in &CUTS {
+        expect_cut(rt, alloc, bytes, piece, *cut);
+    }
+}
+
 #[test]
 fn a_packet_cut_short_is_bad_at_its_first_byte(rt: HostRuntime) {
     let bytes = stream(&rt, rt.alloc(), SHORT);
     expect_same(&rt, bytes.len(), 29);
     for piece in &PIECES {
-        for cut in &CUTS {
-            expect_cut(&rt, rt.alloc(), &bytes, *piece, *cut);
-        }
+        expect_cuts(&rt, rt.alloc(), &bytes, *piece);
     }
 }
 
