@@ -108,6 +108,7 @@ impl<S: Write, C, E: Eprint> Write for WatchedStream<'_, S, C, E> {
 #[cfg(test)]
 mod tests {
     use super::*;
+    use std::alloc::Global;
     use std::cell::Cell;
     use std::fmt::Debug;
     use std::process::Abort;
@@ -196,32 +197,41 @@ mod tests {
         expect_same(rt, file.metadata().is_err(), true);
     }
 
-    #[test]
-    fn calls_reach_the_file(rt: HostRuntime) {
-        let progress = Progress::new("tests", &rt, rt.stderr());
+    /// The calls of a file that a progress sees reach it.
+    fn expect_file<C: Clock, E: Eprint>(rt: &impl Abort, progress: &Progress<C, E>) {
         let tape = Tape {
             bytes: Cell::new([0; 8]),
             last: Cell::new(""),
         };
-        let mut file = WatchedFile::new(tape, Some(Area::Journal), &progress);
-        expect_moved(&rt, &file);
-        expect_kept(&rt, &mut file);
+        let mut file = WatchedFile::new(tape, Some(Area::Journal), progress);
+        expect_moved(rt, &file);
+        expect_kept(rt, &mut file);
     }
 
-    #[test]
-    fn a_read_reaches_the_stream(rt: HostRuntime) {
-        let progress = Progress::new("tests", &rt, rt.stderr());
-        let mut input = WatchedStream::new(&b"xyz"[..], &progress);
+    /// A read of a stream that a progress sees reaches it.
+    fn expect_input<C: Clock, E: Eprint>(rt: &impl Abort, progress: &Progress<C, E>) {
+        let mut input = WatchedStream::new(&b"xyz"[..], progress);
         let mut buf = *b"\0abc";
-        expect_same(&rt, input.read(&mut buf).ok(), Some(3));
-        expect_same(&rt, buf, *b"xyzc");
+        expect_same(rt, input.read(&mut buf).ok(), Some(3));
+        expect_same(rt, buf, *b"xyzc");
+    }
+
+    /// A write to a stream that a progress sees reaches it.
+    fn expect_output<C: Clock, E: Eprint>(
+        rt: &impl Abort,
+        alloc: Global,
+        progress: &Progress<C, E>,
+    ) {
+        let mut output = WatchedStream::new(Vec::new(alloc), progress);
+        expect_same(rt, output.write(b"xy").ok(), Some(2));
+        expect_same(rt, output.stream.as_slice(), b"xy".as_slice());
     }
 
     #[test]
-    fn a_write_reaches_the_stream(rt: HostRuntime) {
+    fn calls_go_through(rt: HostRuntime) {
         let progress = Progress::new("tests", &rt, rt.stderr());
-        let mut output = WatchedStream::new(Vec::new(rt.alloc()), &progress);
-        expect_same(&rt, output.write(b"xy").ok(), Some(2));
-        expect_same(&rt, output.stream.as_slice(), b"xy".as_slice());
+        expect_file(&rt, &progress);
+        expect_input(&rt, &progress);
+        expect_output(&rt, rt.alloc(), &progress);
     }
 }
