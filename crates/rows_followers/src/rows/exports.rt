@@ -2,8 +2,8 @@
 use machine_mem::{CallKind, Fault, MemMachine};
 use machine_model::Image;
 use rows_rig::{
-    RowError, copy_image, expect_same, first_disk, machine_on, new_disk, read_image, run_with,
-    whole_images,
+    NEW_JOURNAL, RowError, copy_image, expect_replies, expect_same, first_disk, machine_on,
+    new_disk, put_byte, read_image, run_with, whole_images,
 };
 use run_script::Status;
 use std::alloc::Global;
@@ -43,16 +43,33 @@ fn packets_of(alloc: Global, journal: &[u8], from: u64) -> Result<Vec<u8>, RowEr
     Ok(packets)
 }
 
-/// A run with these words on a disk, with some calls that fail: how it ends, and the machine behind it.
-fn run_words(
+/// A machine on a copy of this disk, with some calls that fail.
+fn machine_of(alloc: Global, disk: &Image, faults: &[Fault]) -> Result<MemMachine, RowError> {
+    let copy = copy_image(alloc, disk)?;
+    machine_on(alloc, b"find 10 red\n", copy, faults)
+}
+
+/// A run of a machine with these words ends so and shows this.
+fn expect_words(
     alloc: Global,
-    disk: &Image,
+    machine: &mut MemMachine,
+    row: usize,
     words: &[&str],
-    faults: &[Fault],
-) -> Result<(Status, MemMachine), RowError> {
-    let mut machine = machine_on(alloc, b"find 10 red\n", copy_image(alloc, disk)?, faults)?;
-    let status = run_with(alloc, words, &mut machine)?;
-    Ok((status, machine))
+    (wanted, shown): (Status, &[u8]),
+) -> Result<(), RowError> {
+    let status = run_with(alloc, words, machine)?;
+    if status != wanted {
+        return Err(RowError::Status { row, status });
+    }
+    expect_replies(alloc, machine, row, shown)
+}
+
+/// Each of these images is the disk.
+fn expect_all_same(row: usize, images: &[Image], disk: &Image) -> Result<(), RowError> {
+    for image in images {
+        expect_same(row, image, disk)?;
+    }
+    Ok(())
 }
 
 /// Each image that a stop may leave at any moment of a run is the disk as it was.
@@ -62,76 +79,137 @@ fn expect_kept(
     machine: &MemMachine,
     disk: &Image,
 ) -> Result<(), RowError> {
-    for image in &whole_images(alloc, machine)? {
-        expect_same(row, image, disk)?;
+    let images = whole_images(alloc, machine)?;
+    expect_all_same(row, &images, disk)
+}
+
+/// A run of a machine with these words ends so, shows this, and leaves its disk as it was.
+fn expect_run(
+    alloc: Global,
+    machine: &mut MemMachine,
+    disk: &Image,
+    row: usize,
+    words: &[&str],
+    wanted: (Status, &[u8]),
+) -> Result<(), RowError> {
+    expect_words(alloc, machine, row, words, wanted)?;
+    expect_kept(alloc, row, machine, disk)?;
+    let left = read_image(alloc, machine)?;
+    expect_same(row, &left, disk)
+}
+
+/// The same of a run on a copy of the disk.
+fn expect_export(
+    alloc: Global,
+    disk: &Image,
+    row: usize,
+    words: &[&str],
+    wanted: (Status, &[u8]),
+) -> Result<(), RowError> {
+    let mut machine = machine_of(alloc, disk, &[])?;
+    expect_run(alloc, &mut machine, disk, row, words, wanted)
+}
+
+/// With these words an export of the disk shows the packets from a number on.
+fn expect_packets(
+    alloc: Global,
+    disk: &Image,
+    row: usize,
+    words: &[&str],
+    from: u64,
+) -> Result<(), RowError> {
+    let packets = packets_of(alloc, &disk.journal, from)?;
+    expect_export(alloc, disk, row, words, (Status::Done, &packets))
+}
+
+/// The words of an export, and the number from which on it shows entries.
+const FROM: [(&[&str], u64); 9] = [
+    (&["--export", "1"], 1),
+    (&["--export", "2"], 2),
+    (&["--export", "3"], 3),
+    (&["--export", "4"], 4),
+    (&["--export", "5"], 5),
+    (&["--export", "6"], 6),
+    (&["--export", "05"], 5),
+    (&["--export", "9999999999999999999"], u64::MAX),
+    (&["--export=1"], 1),
+];
+
+/// Each of these exports of the disk shows its packets.
+fn expect_exports(alloc: Global, disk: &Image) -> Result<(), RowError> {
+    for (row, (words, from)) in FROM.iter().enumerate() {
+        expect_packets(alloc, disk, row, words, *from)?;
     }
     Ok(())
 }
 
-/// With these words a run on a disk ends well, shows this, and leaves the disk as it was.
-fn expect_export(
-    alloc: Global,
-    row: usize,
-    disk: &Image,
-    words: &[&str],
-    packets: &[u8],
-) -> Result<(), RowError> {
-    let (status, mut machine) = run_words(alloc, disk, words, &[])?;
-    if status != Status::Done {
-        return Err(RowError::Status { row, status });
+/// The packet of the first change.
+const FIRST_PACKET: &[u8] = b"\0\0\0\0\0\0\0\x01\0\0\0\x0e\x01\0\0\0\x01\0\0\0\0\0\0\0\x0av";
+
+/// The packets of the first disk have 295 bytes, and begin with that of the first change: four changes and a plan of
+/// three segments have 14 + 14 + 13 + 13 + 181 bytes, and 12 in front of each.
+fn expect_lengths(alloc: Global, disk: &Image) -> Result<(), RowError> {
+    let all = packets_of(alloc, &disk.journal, 1)?;
+    if all.len() != 295 || !all.starts_with(FIRST_PACKET) {
+        return Err(RowError::OtherJournal { left: all });
     }
-    if machine.shown() != packets {
-        let shown = Vec::from_slice(alloc, machine.shown())?;
-        return Err(RowError::Replies { row, shown });
-    }
-    expect_kept(alloc, row, &machine, disk)?;
-    expect_same(row, &read_image(alloc, &mut machine)?, disk)
+    Ok(())
 }
 
-// Four changes and a plan of three segments: 14 + 14 + 13 + 13 + 181 bytes, and 12 in front of each.
 #[test]
 fn an_export_shows_each_entry_from_a_number_on(rt: HostRuntime) -> Result<(), RowError> {
     let alloc = rt.alloc();
     let disk = first_disk(alloc)?;
-    let all = packets_of(alloc, &disk.journal, 1)?;
-    assert_eq!(rt; all.len(), 295);
-    assert!(rt; all.starts_with(b"\0\0\0\0\0\0\0\x01\0\0\0\x0e\x01\0\0\0\x01\0\0\0\0\0\0\0\x0av"));
-    let rows = [
-        ("1", 1),
-        ("2", 2),
-        ("3", 3),
-        ("4", 4),
-        ("5", 5),
-        ("6", 6),
-        ("05", 5),
-        ("9999999999999999999", u64::MAX),
-    ];
-    for (row, (word, from)) in rows.iter().enumerate() {
-        let packets = packets_of(alloc, &disk.journal, *from)?;
-        expect_export(alloc, row, &disk, &["--export", *word], &packets)?;
-    }
-    expect_export(alloc, rows.len(), &disk, &["--export=1"], &all)
+    expect_lengths(alloc, &disk)?;
+    expect_exports(alloc, &disk)
+}
+
+/// An export by a machine on a new disk shows nothing. Answers what the disk holds then.
+fn run_new(alloc: Global, machine: &mut MemMachine) -> Result<Image, RowError> {
+    expect_words(alloc, machine, 0, &["--export", "1"], (Status::Done, b""))?;
+    read_image(alloc, machine)
+}
+
+/// The disk that an export of a new one leaves.
+fn begun_disk(alloc: Global) -> Result<Image, RowError> {
+    let mut machine = machine_on(alloc, b"find 10 red\n", new_disk(alloc), &[])?;
+    run_new(alloc, &mut machine)
 }
 
 // The journal of an archive without entries is written, as by each run.
 #[test]
 fn an_archive_without_entries_shows_nothing(rt: HostRuntime) -> Result<(), RowError> {
     let alloc = rt.alloc();
-    let (status, mut machine) = run_words(alloc, &new_disk(alloc), &["--export", "1"], &[])?;
-    let begun = read_image(alloc, &mut machine)?;
-    assert_eq!(rt; status, Status::Done);
-    assert!(rt; machine.shown().is_empty());
-    assert!(rt; begun.journal.as_slice() == b"TIMETRAVELTEXT\0\x01\0".as_slice());
-    assert!(rt; begun.pages.is_empty());
-    let (status, mut machine) = run_words(alloc, &begun, &["--export", "1"], &[])?;
-    assert_eq!(rt; status, Status::Done);
-    assert!(rt; machine.shown().is_empty());
-    expect_same(0, &read_image(alloc, &mut machine)?, &begun)
+    let begun = begun_disk(alloc)?;
+    if begun.journal.as_slice() != NEW_JOURNAL || !begun.pages.is_empty() {
+        return Err(RowError::Changed { row: 0 });
+    }
+    expect_export(alloc, &begun, 0, &["--export", "1"], (Status::Done, b""))
+}
+
+/// A run of a machine on a new disk with these words is a usage fault, and touches nothing.
+fn expect_untouched(
+    alloc: Global,
+    machine: &mut MemMachine,
+    row: usize,
+    words: &[&str],
+) -> Result<(), RowError> {
+    expect_words(alloc, machine, row, words, (Status::Usage, b""))?;
+    let left = read_image(alloc, machine)?;
+    if !left.journal.is_empty() {
+        return Err(RowError::Touched { row });
+    }
+    Ok(())
+}
+
+/// The same of a new machine.
+fn expect_nothing(alloc: Global, row: usize, words: &[&str]) -> Result<(), RowError> {
+    let mut machine = machine_on(alloc, b"find 10 red\n", new_disk(alloc), &[])?;
+    expect_untouched(alloc, &mut machine, row, words)
 }
 
 #[test]
 fn words_that_ask_for_no_export_touch_nothing(rt: HostRuntime) -> Result<(), RowError> {
-    let alloc = rt.alloc();
     let rows: [&[&str]; 7] = [
         &["--export"],
         &["--export", "0"],
@@ -142,14 +220,7 @@ fn words_that_ask_for_no_export_touch_nothing(rt: HostRuntime) -> Result<(), Row
         &["--export", "1", "--generate", "1", "--count", "1"],
     ];
     for (row, words) in rows.iter().enumerate() {
-        let (status, mut machine) = run_words(alloc, &new_disk(alloc), words, &[])?;
-        if status != Status::Usage {
-            return Err(RowError::Status { row, status });
-        }
-        let left = read_image(alloc, &mut machine)?;
-        if !machine.shown().is_empty() || !left.journal.is_empty() {
-            return Err(RowError::Touched { row });
-        }
+        expect_nothing(rt.alloc(), row, words)?;
     }
     Ok(())
 }
@@ -158,11 +229,9 @@ fn words_that_ask_for_no_export_touch_nothing(rt: HostRuntime) -> Result<(), Row
 fn a_journal_that_is_no_archives_is_told(rt: HostRuntime) -> Result<(), RowError> {
     let alloc = rt.alloc();
     let mut disk = first_disk(alloc)?;
-    disk.journal[3] = b'x';
-    let (status, machine) = run_words(alloc, &disk, &["--export", "1"], &[])?;
-    assert_eq!(rt; status, Status::NotArchive { at: 3 });
-    assert!(rt; machine.shown().is_empty());
-    expect_kept(alloc, 0, &machine, &disk)
+    put_byte(&mut disk.journal, 3, b'x')?;
+    let told = Status::NotArchive { at: 3 };
+    expect_export(alloc, &disk, 0, &["--export", "1"], (told, b""))
 }
 
 /// How an export ends where a call of this kind fails.
@@ -174,8 +243,43 @@ fn status_of(call: CallKind) -> Status {
     }
 }
 
-/// Lets each call of this kind fail in turn: a front of the packets is shown, and the disk stays at each
-/// moment. It answers how many such calls there are.
+/// An export by a machine with a call that fails shows a front of the packets, and the disk stays at each moment.
+/// Answers whether it came to its end.
+fn ends_on(
+    alloc: Global,
+    machine: &mut MemMachine,
+    disk: &Image,
+    packets: &[u8],
+    fault: Fault,
+) -> Result<bool, RowError> {
+    let row = fault.nth as usize;
+    let status = run_with(alloc, &["--export", "1"], machine)?;
+    expect_kept(alloc, row, machine, disk)?;
+    if status == Status::Done {
+        return Ok(true);
+    }
+    if status != status_of(fault.call) {
+        return Err(RowError::Status { row, status });
+    }
+    if !packets.starts_with(machine.shown()) || machine.shown() == packets {
+        let shown = Vec::from_slice(alloc, machine.shown())?;
+        return Err(RowError::Replies { row, shown });
+    }
+    Ok(false)
+}
+
+/// The same of a machine on a copy of the disk.
+fn ends_despite(
+    alloc: Global,
+    disk: &Image,
+    packets: &[u8],
+    fault: Fault,
+) -> Result<bool, RowError> {
+    let mut machine = machine_of(alloc, disk, &[fault])?;
+    ends_on(alloc, &mut machine, disk, packets, fault)
+}
+
+/// Lets each call of this kind fail in turn, and answers how many such calls there are.
 fn fail_each(alloc: Global, disk: &Image, packets: &[u8], call: CallKind) -> Result<u64, RowError> {
     for nth in 1..100 {
         let fault = Fault {
@@ -183,33 +287,38 @@ fn fail_each(alloc: Global, disk: &Image, packets: &[u8], call: CallKind) -> Res
             nth,
             landed: 0,
         };
-        let row = nth as usize;
-        let (status, machine) = run_words(alloc, disk, &["--export", "1"], &[fault])?;
-        expect_kept(alloc, row, &machine, disk)?;
-        if status == Status::Done {
+        if ends_despite(alloc, disk, packets, fault)? {
             return Ok(nth - 1);
-        }
-        if status != status_of(call) {
-            return Err(RowError::Status { row, status });
-        }
-        if !packets.starts_with(machine.shown()) || machine.shown() == packets {
-            let shown = Vec::from_slice(alloc, machine.shown())?;
-            return Err(RowError::Replies { row, shown });
         }
     }
     Ok(100)
 }
 
-// Each packet is pushed at once; nothing is pulled, and nothing written.
+/// Kinds of calls, and how many an export of the first disk makes: so many at least, and at most. Each packet is
+/// pushed at once; nothing is pulled, and nothing written.
+const CALLS: [(CallKind, u64, u64); 5] = [
+    (CallKind::Push, 5, 5),
+    (CallKind::Sync, 1, 1),
+    (CallKind::Pull, 0, 0),
+    (CallKind::Write, 0, 0),
+    (CallKind::Read, 2, 100),
+];
+
+/// Lets each call of each kind fail in turn. There are as many as is said.
+fn fail_all(alloc: Global, disk: &Image, packets: &[u8]) -> Result<(), RowError> {
+    for (row, (call, least, most)) in CALLS.iter().enumerate() {
+        let count = fail_each(alloc, disk, packets, *call)?;
+        if count < *least || *most < count {
+            return Err(RowError::Count { row, count });
+        }
+    }
+    Ok(())
+}
+
 #[test]
 fn a_call_that_fails_ends_an_export(rt: HostRuntime) -> Result<(), RowError> {
     let alloc = rt.alloc();
     let disk = first_disk(alloc)?;
     let packets = packets_of(alloc, &disk.journal, 1)?;
-    assert_eq!(rt; fail_each(alloc, &disk, &packets, CallKind::Push)?, 5);
-    assert_eq!(rt; fail_each(alloc, &disk, &packets, CallKind::Sync)?, 1);
-    assert_eq!(rt; fail_each(alloc, &disk, &packets, CallKind::Pull)?, 0);
-    assert_eq!(rt; fail_each(alloc, &disk, &packets, CallKind::Write)?, 0);
-    assert!(rt; fail_each(alloc, &disk, &packets, CallKind::Read)? >= 2);
-    Ok(())
+    fail_all(alloc, &disk, &packets)
 }
