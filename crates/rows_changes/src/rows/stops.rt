@@ -233,12 +233,7 @@ fn where_the_gate_is_not_synced_its_byte_decides(rt: HostRuntime) -> Result<(), 
 }
 
 /// Where this call of the first script's run fails, there is no entry at any moment.
-fn expect_none(
-    alloc: Global,
-    call: CallKind,
-    nth: u64,
-    status: Status,
-) -> Result<(), RowError> {
+fn expect_none(alloc: Global, call: CallKind, nth: u64, status: Status) -> Result<(), RowError> {
     let machine = cut_short(alloc, call, nth, status)?;
     expect_moments(alloc, &machine, &[(0..machine.moments(), 0, 0)])
 }

@@ -2,9 +2,9 @@
 use crate::rows::audits::{Audited, expect_audit, expect_audits};
 use machine_model::Image;
 use rows_rig::{
-    FIRST_PLAN, FOUR_CHANGES, Plan, Row, RowError, batched, disk_after_all, disk_of,
-    expect_entry, expect_in_order, expect_status, expect_told, first_segments, foreign_batches,
-    journal_of, long_batch, new_disk, pages_of, plan_of_v, plan_record,
+    FIRST_PLAN, FOUR_CHANGES, Plan, Row, RowError, batched, disk_after_all, disk_of, expect_entry,
+    expect_in_order, expect_status, expect_told, first_segments, foreign_batches, journal_of,
+    long_batch, new_disk, pages_of, plan_of_v, plan_record,
 };
 use run_audit::AuditStatus;
 use run_script::Status;

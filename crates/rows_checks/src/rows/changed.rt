@@ -1,7 +1,8 @@
 //! Sublists with bytes that changed: the first is told, with what was found there and what is wanted.
 use rows_rig::{
     CLIPPED_LIVES, Damaged, LIFE_OF_1, LIVES_OF_1_AND_2, Row, RowError, Sublist, disk_with,
-    disk_with_bytes, expect_damaged, expect_kept, expect_on, expect_planned, expect_told, put_byte, first_disk, first_segments, plan_of_v, segment_at, verify,
+    disk_with_bytes, expect_damaged, expect_kept, expect_on, expect_planned, expect_told,
+    first_disk, first_segments, plan_of_v, put_byte, segment_at, verify,
 };
 use std::alloc::Global;
 

@@ -2,8 +2,8 @@
 //! blocks. A program that knows the formats alone made its files.
 use rows_rig::{
     FIRST_CERTIFICATE, FLAT, FOUR_RECORDS, LIFE_OF_1, LIVES_OF_1_AND_2, Plan, Row, RowError,
-    Segment, disk_after_all, expect_held, expect_left, expect_on, flat_disk, flat_segments, plan_of_v,
-    plan_record, segment_at,
+    Segment, disk_after_all, expect_held, expect_left, expect_on, flat_disk, flat_segments,
+    plan_of_v, plan_record, segment_at,
 };
 use std::alloc::{AllocError, Global};
 

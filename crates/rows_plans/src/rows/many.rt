@@ -1,8 +1,6 @@
 //! Plans of thousands of segments.
 use machine_model::Image;
-use rows_rig::{
-    Row, RowError, Sublist, disk_of, expect_held, expect_on, many_lives, segment_at,
-};
+use rows_rig::{Row, RowError, Sublist, disk_of, expect_held, expect_on, many_lives, segment_at};
 use std::alloc::Global;
 
 /// Document 1 has the word once in [4096, 4097).

@@ -1,7 +1,5 @@
 //! Sublists that aren't what the entries of their plans say, asked for where other pages are kept.
-use crate::rows::cache::steps::{
-    Step, Whole, expect_read, find_25, find_35, join_steps, step_of,
-};
+use crate::rows::cache::steps::{Step, Whole, expect_read, find_25, find_35, join_steps, step_of};
 use machine_mem::MemMachine;
 use machine_model::Image;
 use rows_rig::{
@@ -38,12 +36,7 @@ fn run_damaged(
 }
 
 /// The same of a machine on a copy of this disk.
-fn disk_left(
-    alloc: Global,
-    disk: &Image,
-    count: usize,
-    whole: &Whole,
-) -> Result<Image, RowError> {
+fn disk_left(alloc: Global, disk: &Image, count: usize, whole: &Whole) -> Result<Image, RowError> {
     let copy = copy_image(alloc, disk)?;
     let mut machine = machine_on(alloc, &whole.script, copy, &[])?;
     run_damaged(alloc, &mut machine, count, whole)
