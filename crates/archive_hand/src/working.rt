@@ -86,7 +86,7 @@ impl Archive {
     /// Writes the next `STINT_PAGES` pages of the plan that is being written; or, where no more are left,
     /// these, and stores it: it takes the place of its word's plan, if there is one, and is durable then.
     /// Takes no memory. `Failed`: the archive is spent, and keeps what it had.
-    /// Costs a walk over the places in front, a call of the disk for each place that has some of the pages,
+    /// Costs the logarithm of the places, a call of the disk for each place that has some of the pages,
     /// and at the end a sync and two synced writes of the entry.
     pub fn advance<D: Disk>(&mut self, disk: &mut D) -> Result<Stint, Failed>
         requires live { IsTrue self.old.live }

@@ -5,6 +5,8 @@ use Rattle.std.proofs.Math.Seq.{drop-append-add, take-append-add, drop-cons, tak
 use Rattle.std.proofs.lemmas.Bool.{cases_lt}
 use Rattle.std.proofs.lemmas.Result.{on_ok_weaker}
 use Rattle.std.proofs.lemmas.List.{length-take, take-append-le, drop-append-le, take_all, drop_all, append-nil, take-take, drop-take, drop-drop, get_or-take, get_or-drop, get_or-append-add, get_or_append_left, ext_get_or, map-append}
+use Rattle.std.specs.List.Sorted.{IsNonDecreasingBy}
+use Rattle.std.proofs.lemmas.List.Sums.{sum_by-cons}
 use Rattle.std.proofs.lemmas.List.Elements.{All-nil, All-cons, All-head, All-tail, All-append, All-map, All-weaker}
 use Rattle.std.proofs.lemmas.List.FromFn.{length-map-range_with_len, get_or-map-range_with_len, length-range_with_len, get_or-range_with_len}
 use Rattle.machine_model.specs.Areas.{Bytes}
@@ -23,7 +25,7 @@ use Rattle.pages_area.specs.Caches.{Kept, IsHeld, StandsFor}
 use Rattle.pages_area.specs.Pieces.{piece, pieces}
 use Rattle.pages_area.proofs.CacheLawLemmas.{writes-stand}
 use Rattle.journal_entries.specs.declared.place.Place.{Place}
-use Rattle.pages_sublists.specs.Paged.{pages_of, page_ranges, WrotePages, ReachPages}
+use Rattle.pages_sublists.specs.Paged.{AreStarts, pages_in_front, pages_of, page_ranges, WrotePages, ReachPages}
 use Rattle.pages_sublists.specs.Preparing.{IsFor, extents, pieces_of}
 use Rattle.pages_sublists.proofs.WriteLemmas.{pieces_from, pieces_at, pieces_end}
 
@@ -294,11 +296,11 @@ pub record AreWrittenSome (tells : Type 0) (old new : DiskState) (n most : ℕ) 
   pub inside : ReachPages new.reach.pages done
   pub counted : n + length done ≡ most
 
-pub some_none : (tells : Type 0) (old : DiskState) (most : ℕ) (rest : List Extent) (all : List Kept) → AreApart rest → AreWrittenSome tells old old most most rest all all
-some_none tells old most rest all apart = record {
+pub some_none : (tells : Type 0) (old : DiskState) (most : ℕ) (rest : List Extent) (left all : List Kept) → AreApart rest → left ≡ all → AreWrittenSome tells old old most most rest left all
+some_none tells old most rest left all apart same = record {
   fewer = omega arith;
   done = [];
-  is = refl;
+  is = same;
   rest_apart = apart;
   apart = All-nil (λ k. IsTaken rest k.page → ⊥);
   images = λ told. changes_nothing [] old;
@@ -404,6 +406,47 @@ left_none places all k skip most none = ap (λ (n : ℕ). take n (drop skip (pag
 
 pub left_same : (places : List Place) (all : List (List ℕ)) (k skip skip' most most' : ℕ) → skip ≡ skip' → most ≡ most' → left_from places all k skip most ≡ left_from places all k skip' most'
 left_same places all k skip skip' most most' one two = ap (λ (s : ℕ). left_from places all k s most) one ∙ ap (λ (m : ℕ). left_from places all k skip' m) two
+
+front_cons : (b : List ℕ) (all : List (List ℕ)) (k : ℕ) → pages_in_front (b ∷ all) (suc k) ≡ pages_for (length b) + pages_in_front all k
+front_cons b all k = sum_by-cons (λ (bytes : List ℕ). pages_for (length bytes)) b (take k all)
+
+pages_behind : (places : List Place) (all : List (List ℕ)) (k s : ℕ) → AllZip IsFor places all → k ≤ length places → pages_in_front all k ≤ s
+    → drop (s - pages_in_front all k) (pages_of (pieces_from places all k)) ≡ drop s (pages_of (pieces_of places all))
+pages_behind places all zero s each within before = let none : s - pages_in_front all 0 ≡ s = omega arith in ap (λ (i : ℕ). drop i (pages_of (pieces_of places all))) none
+pages_behind [] all (suc k) s each within before = absurd (omega (arith, within))
+pages_behind (p ∷ places) [] (suc k) s each within before = absurd each
+pages_behind (p ∷ places) (b ∷ all) (suc k) s each within before =
+    let n : ℕ = pages_for (length b) in
+    let f : ℕ = pages_in_front all k in
+    let front = pieces p.extent.first b in
+    let behind = pages_of (pieces_of places all) in
+    let size : length front ≡ n = length-map-range_with_len (piece p.extent.first b) 0 n in
+    let both : pages_in_front (b ∷ all) (suc k) ≡ n + f = front_cons b all k in
+    let less : s - pages_in_front (b ∷ all) (suc k) ≡ (s - n) - f = omega (arith, both) in
+    let none : drop s front ≡ [] = drop_all s front (omega (arith, size, both, before)) in
+    ap (λ (i : ℕ). drop i (pages_of (pieces_from places all k))) less ∙ pages_behind places all k (s - n) each.1 (omega (arith, within)) (omega (arith, both, before))
+    ∙ ap (λ (i : ℕ). drop (s - i) behind) (sym size) ∙ ap (λ (l : List Kept). l ++ drop (s - length front) behind) (sym none) ∙ sym (drop_joined s front behind)
+
+-- what is left from a place on, where those in front of it have no page that is asked for
+pub left_at : (places : List Place) (all : List (List ℕ)) (k from most : ℕ) → AllZip IsFor places all → k ≤ length places → pages_in_front all k ≤ from
+    → left_from places all k (from - pages_in_front all k) most ≡ left_from places all 0 from most
+left_at places all k from most each within before = ap (take most) (pages_behind places all k from each within before)
+
+pub rest_apart : (places : List Place) (k : ℕ) → AreApart (extents places) → AreApart (rest_from places k)
+rest_apart places zero apart = apart
+rest_apart [] (suc k) apart = apart
+rest_apart (p ∷ places) (suc k) apart = rest_apart places k apart.1
+
+-- the starts of places don't fall
+front_rises : (all : List (List ℕ)) (i j : ℕ) → i ≤ j → pages_in_front all i ≤ pages_in_front all j
+front_rises all zero j le = omega arith
+front_rises all (suc i) zero le = absurd (omega (arith, le))
+front_rises [] (suc i) (suc j) le = omega arith
+front_rises (b ∷ all) (suc i) (suc j) le = omega (arith, front_cons b all i, front_cons b all j, front_rises all i j (omega (arith, le)))
+
+pub starts_rise : (starts : List ℕ) (all : List (List ℕ)) → AreStarts starts all → IsNonDecreasingBy (λ n. n) starts
+starts_rise starts all are i j d le below =
+    omega (arith, are.as_many, are.each i d (omega (arith, le, below, are.as_many)), are.each j d (omega (arith, below, are.as_many)), front_rises all i j le)
 
 -- how many were written
 pub some_counted : (tells : Type 0) (old new : DiskState) (n most : ℕ) (rest : List Extent) (left all : List Kept) → left ≡ [] → AreWrittenSome tells old new n most rest left all → most - n ≡ length all

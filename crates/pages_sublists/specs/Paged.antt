@@ -1,9 +1,10 @@
 -- Sublists that are written some pages at a time: the pages of their places, counted over the places in order.
-use Rattle.std.specs.Prelude.{◌≡◌, ℕ, ◌+◌, ◌*◌, ◌≤◌, List, length, take, drop, map, All}
+use Rattle.std.specs.Prelude.{◌≡◌, ℕ, ◌+◌, ◌*◌, ◌<◌, ◌≤◌, List, length, take, drop, map, get_or, sum_by, All}
 use Rattle.std.specs.List.{flat_map}
 use Rattle.machine_model.specs.Areas.{Bytes}
 use Rattle.machine_model.specs.declared.range.Range.{Range}
 use Rattle.pages_area.specs.Ranges.{SameOutside}
+use Rattle.pages_area.specs.Runs.{pages_for}
 use Rattle.pages_area.specs.Wrote.{Piece}
 use Rattle.pages_area.specs.Caches.{Kept, StandsFor}
 use Rattle.pages_area.specs.Pieces as paging
@@ -16,6 +17,15 @@ pages_of all = flat_map (λ p. paging.pieces p.extent.first p.bytes) all
 -- so many pages of sublists that were prepared, from one on, or as many as there are
 abbrev pub some_pages : ℕ → ℕ → PreparedState → List Kept
 some_pages from count prepared = take count (drop from (pages_of (pieces prepared)))
+
+-- how many pages the first so many lists of bytes have
+abbrev pub pages_in_front : List (List ℕ) → ℕ → ℕ
+pages_in_front all count = sum_by (λ (bytes : List ℕ). pages_for (length bytes)) (take count all)
+
+-- for each list of bytes, how many pages those in front of it have
+pub record AreStarts (starts : List ℕ) (all : List (List ℕ)) : Type 0 where
+  pub as_many : length starts ≡ length all
+  pub each : (k d : ℕ) → k < length all → get_or starts k d ≡ pages_in_front all k
 
 -- where the bytes of these pages lie in Pages
 abbrev pub page_ranges : List Kept → List Range

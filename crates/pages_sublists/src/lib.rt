@@ -19,6 +19,7 @@ mod parts;
 mod placing;
 mod prepared;
 mod spelled;
+mod starts;
 mod store;
 mod why;
 

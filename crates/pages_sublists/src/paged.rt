@@ -9,11 +9,12 @@ ghost use Rattle.pages_area.specs.Runs.{IsTaken, pages_for};
 ghost use Rattle.pages_area.specs.Taken.{HasTaken, AreApart};
 ghost use Rattle.pages_area.specs.Caches.{StandsFor};
 ghost use Rattle.pages_area.specs.Pieces.{pieces as page_pieces};
-ghost use Rattle.pages_sublists.specs.Paged.{ReachPages, WrotePages, page_ranges, pages_of, some_pages};
+ghost use Rattle.pages_sublists.specs.Paged.{AreStarts, ReachPages, WrotePages, page_ranges, pages_of, some_pages};
 ghost use Rattle.pages_sublists.specs.Preparing.{IsFor, extents, pieces, pieces_of};
 
 use crate::prepared::Prepared;
 use crate::spelled::Spelling;
+use crate::starts::start_at;
 use crate::store::Sublists;
 use base_types::{Extent, PAGE_BYTES};
 use journal_entries::Place;
@@ -24,7 +25,7 @@ impl Sublists {
     /// Writes so many pages of sublists that were prepared, or those that are left, from one on, counted
     /// over the places in order, and answers how many; none of their pages may be kept. Until the next good
     /// sync a stop may leave any part of them. Takes no memory. It makes a call of the disk for each place
-    /// that has some of these pages, and goes over the places in front.
+    /// that has some of these pages, and costs the logarithm of the places beside them.
     pub fn write_some<D: Disk>(
         &self,
         disk: &mut D,
@@ -56,6 +57,7 @@ impl Sublists {
             disk,
             &prepared.places,
             &prepared.spellings,
+            &prepared.starts,
             from,
             pages,
         )
@@ -80,10 +82,12 @@ fn write_pages<D: Disk>(
     disk: &mut D,
     places: &[Place],
     spellings: &[Spelling],
+    starts: &[u64],
     from: u64,
     most: u64,
 ) -> Result<u64, Failed>
     requires each { AllZip IsFor places.now spellings.now }
+    requires starts { AreStarts starts.now spellings.now }
     requires apart { AreApart (extents places.now) }
     ensures only { D.Disk.only disk.old disk.new }
     ensures cause { HasCause (D.disk disk.old).faults (D.disk disk.new).faults result }
@@ -99,9 +103,10 @@ fn write_pages<D: Disk>(
         → OnOk result (WrotePages (take most (drop from (pages_of (pieces_of places.now spellings.now)))) (D.disk disk.old).holds
         (D.disk disk.new).holds) }
 {
-    let mut skip = from;
+    let start = start_at(starts, from);
+    let mut skip = from - start.front;
     let mut left = most;
-    for k in 0..places.len() {
+    for k in start.place..places.len() {
         if left == 0 {
             return Ok(most);
         }

@@ -19,6 +19,7 @@ ghost use Rattle.pages_sublists.specs.Preparing.{IsFor, extents, pieces, pieces_
 
 use crate::placing::{let_go, place_all, release, take_all};
 use crate::spelled::{Spelling, spell_all};
+use crate::starts::starts_of;
 use crate::store::Sublists;
 use crate::why::PlaceError;
 use base_types::{Posting, Time};
@@ -33,17 +34,20 @@ use std::marker::Model;
 pub struct Prepared {
     pub(crate) places: Vec<Place>,
     pub(crate) spellings: Vec<Spelling>,
+    /// For each place, how many pages those in front of it take.
+    pub(crate) starts: Vec<u64>,
 }
 
 impl Model for Prepared {
     ghost use Rattle.std.specs.List.{AllZip};
+    ghost use Rattle.pages_sublists.specs.Paged.{AreStarts};
     ghost use Rattle.pages_sublists.specs.Preparing.{PreparedState, IsFor};
 
     ghost Value = { PreparedState };
 
     ghost view = { λ p. record { places = p.places.items; spellings = p.spellings.items } };
 
-    ghost invariant = { λ p. AllZip IsFor p.places.items p.spellings.items };
+    ghost invariant = { λ p. AllZip IsFor p.places.items p.spellings.items × AreStarts p.starts.items p.spellings.items };
 }
 
 impl Prepared {
@@ -88,8 +92,16 @@ impl Sublists {
             Ok(spellings) => spellings,
             Err(_) => return Err(TakeError::Memory),
         };
+        let starts = match starts_of(alloc, &spellings) {
+            Ok(starts) => starts,
+            Err(_) => return Err(TakeError::Memory),
+        };
         match place_all(&mut self.pages, alloc, &spellings) {
-            Ok(places) => Ok(Prepared { places, spellings }),
+            Ok(places) => Ok(Prepared {
+                places,
+                spellings,
+                starts,
+            }),
             Err(error) => Err(error),
         }
     }
@@ -123,11 +135,13 @@ impl Sublists {
         ensures cache { self.new.cache ≡ self.old.cache }
     {
         let spellings = spell_all(alloc, layout, list, cuts, horizon)?;
+        let starts = starts_of(alloc, &spellings)?;
         let copy = Vec::from_slice(alloc, places)?;
         match take_all(&mut self.pages, places, &spellings) {
             Ok(()) => Ok(Prepared {
                 places: copy,
                 spellings,
+                starts,
             }),
             Err(error) => Err(error),
         }

@@ -1,11 +1,12 @@
 //! The bytes of the segments' sublists.
-ghost use Rattle.std.specs.Prelude.{◌≡◌, [], ◌∷◌, ◌++◌, IfOk, OnOk};
+ghost use Rattle.std.specs.Prelude.{◌≡◌, [], ◌∷◌, ◌++◌, length, IfOk, OnOk};
 ghost use Rattle.lists_postings.specs.Lists.{IsList};
+ghost use Rattle.pages_area.specs.Runs.{pages_for};
 ghost use Rattle.pages_sublists.specs.Segments.{seconds};
 ghost use Rattle.pages_sublists.specs.Preparing.{spellings};
 
 use crate::parts::{narrowed, sublist_bytes};
-use base_types::{Posting, Time};
+use base_types::{PAGE_BYTES, Posting, Time};
 use journal_entries::Layout;
 use std::alloc::{AllocError, Global};
 use std::marker::Model;
@@ -30,6 +31,13 @@ impl Spelling {
         ensures { result.now ≡ self.now }
     {
         &self.bytes
+    }
+
+    /// How many pages the bytes take, the last one in part.
+    pub(crate) fn pages(&self) -> u64
+        ensures { result ≡ pages_for (length self.now) }
+    {
+        (self.bytes.len() as u64).div_ceil(PAGE_BYTES)
     }
 }
 

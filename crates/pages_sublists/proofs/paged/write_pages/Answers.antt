@@ -1,21 +1,31 @@
-use Rattle.std.proofs.Common.{◌-◌, ◌+◌, ◌++◌, length, take, drop, get_or, refl, ap, sym, ◌∙◌, arith}
+use Rattle.std.proofs.Common.{◌≡◌, ◌≤◌, ◌-◌, ◌+◌, ◌++◌, length, take, drop, get_or, refl, ap, sym, ◌∙◌, arith}
 use Rattle.std.proofs.lemmas.List.{length-take}
 use Rattle.machine_model.specs.declared.area.Area.TheVariants.{Pages}
 use Rattle.journal_entries.specs.declared.place.Place.{Place}
 use Rattle.pages_area.specs.Runs.{pages_for}
 use Rattle.pages_area.specs.Pieces.{pieces}
+use Rattle.pages_sublists.specs.Paged.{pages_in_front}
 use Rattle.pages_sublists.specs.Preparing.{IsFor}
 use Rattle.pages_sublists.proofs.WriteLemmas.{as_many, for_at}
-use Rattle.pages_sublists.proofs.PagedLemmas.{same_at, some_none, some_more, some_changed, some_counted, left_from, left_next, left_none, left_end, left_same, rest_from, rest_next}
+use Rattle.pages_sublists.proofs.PagedLemmas.{same_at, some_none, some_more, some_changed, some_counted, left_from, left_next, left_none, left_end, left_same, left_at, rest_apart, rest_from, rest_next}
 use Rattle.pages_sublists.proofs.paged.write_pages.Goals as goal
 
 pub loop-k-init : goal.loop-k-init
-loop-k-init g c = record {
+loop-k-init g c =
+  let places = c.args.places.now in
+  let all = c.args.spellings.now in
+  let start = c.start_at-start.result in
+  let front : start.front ≡ pages_in_front all start.place = c.start_at-start.ensures.front all c.requires.starts in
+  let within : start.place ≤ length places = omega (arith, c.start_at-start.ensures.place, c.requires.starts.as_many, as_many places all c.requires.each) in
+  record {
   only = g.met.D.Disk.only_same _;
   later = omega arith;
   journal = refl;
   read = λ tells. refl;
-  written = some_none g.D.Disk.disk_tells (g.D.Disk.disk c.args.disk.now) c.args.most (rest_from c.args.places.now 0) (left_from c.args.places.now c.args.spellings.now 0 c.args.from c.args.most) c.requires.apart;
+  written = some_none g.D.Disk.disk_tells (g.D.Disk.disk c.args.disk.now) c.args.most (rest_from places start.place) (left_from places all start.place (c.args.from - start.front) c.args.most) (left_from places all 0 c.args.from c.args.most)
+      (rest_apart places start.place c.requires.apart)
+      (left_same places all start.place (c.args.from - start.front) (c.args.from - pages_in_front all start.place) c.args.most c.args.most (omega (arith, front)) refl
+      ∙ left_at places all start.place c.args.from c.args.most c.requires.each within (omega (arith, front, c.start_at-start.ensures.before)));
 }
 
 pub returns-then-left-eq0-clause-count : goal.returns-then-left-eq0-clause-count

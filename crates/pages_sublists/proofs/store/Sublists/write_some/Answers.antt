@@ -41,6 +41,6 @@ returns-clause-counted g c = λ tells.
     let B : List (List ℕ) → Type 0 = λ bs. OnOk c.write_pages.result (WrotePages (take c.args.pages (drop c.args.from (pages_of (pieces_of places bs)))) old.holds new.holds) in
     let S : PreparedState → Type 0 = λ s. StandsFor (cache ++ take c.args.from (pages_of (pieces_of s.places s.spellings))) old.holds.pages
     → OnOk c.write_pages.result (StandsFor (cache ++ take (c.args.from + c.args.pages) (pages_of (pieces_of s.places s.spellings))) new.holds.pages) in
-    subst S c.prepared.view_is (counted_still c.write_pages.result cache places all c.args.pages c.args.from old.holds new.holds c.prepared.invariant
+    subst S c.prepared.view_is (counted_still c.write_pages.result cache places all c.args.pages c.args.from old.holds new.holds c.prepared.invariant.0
     (places_apart c.args.self.now.pages places live (subst H (sym c.prepared.view_is) c.requires.taken.1)) (subst U (sym c.prepared.view_is) c.requires.unkept)
     (subst B c.deref-2.ensures.value (subst P c.deref.ensures.value (c.write_pages.ensures.wrote tells))))
