@@ -12,21 +12,21 @@ use Rattle.pages_sublists.proofs.paged.write_pages.Goals as goal
 
 pub loop-k-init : goal.loop-k-init
 loop-k-init g c =
-  let places = c.args.places.now in
-  let all = c.args.spellings.now in
-  let start = c.start_at-start.result in
-  let front : start.front ≡ pages_in_front all start.place = c.start_at-start.ensures.front all c.requires.starts in
-  let within : start.place ≤ length places = omega (arith, c.start_at-start.ensures.place, c.requires.starts.as_many, as_many places all c.requires.each) in
-  record {
-  only = g.met.D.Disk.only_same _;
-  later = omega arith;
-  journal = refl;
-  read = λ tells. refl;
-  written = some_none g.D.Disk.disk_tells (g.D.Disk.disk c.args.disk.now) c.args.most (rest_from places start.place) (left_from places all start.place (c.args.from - start.front) c.args.most) (left_from places all 0 c.args.from c.args.most)
-      (rest_apart places start.place c.requires.apart)
-      (left_same places all start.place (c.args.from - start.front) (c.args.from - pages_in_front all start.place) c.args.most c.args.most (omega (arith, front)) refl
-      ∙ left_at places all start.place c.args.from c.args.most c.requires.each within (omega (arith, front, c.start_at-start.ensures.before)));
-}
+    let places = c.args.places.now in
+    let all = c.args.spellings.now in
+    let start = c.start_at-start.result in
+    let front : start.front ≡ pages_in_front all start.place = c.start_at-start.ensures.front all c.requires.starts in
+    let within : start.place ≤ length places = omega (arith, c.start_at-start.ensures.place, c.requires.starts.as_many, as_many places all c.requires.each) in
+    record {
+      only = g.met.D.Disk.only_same _;
+      later = omega arith;
+      journal = refl;
+      read = λ tells. refl;
+      written = some_none g.D.Disk.disk_tells (g.D.Disk.disk c.args.disk.now) c.args.most (rest_from places start.place) (left_from places all start.place (c.args.from - start.front) c.args.most) (left_from places all 0 c.args.from c.args.most)
+          (rest_apart places start.place c.requires.apart)
+          (left_same places all start.place (c.args.from - start.front) (c.args.from - pages_in_front all start.place) c.args.most c.args.most (omega (arith, front)) refl
+          ∙ left_at places all start.place c.args.from c.args.most c.requires.each within (omega (arith, front, c.start_at-start.ensures.before)));
+    }
 
 pub returns-then-left-eq0-clause-count : goal.returns-then-left-eq0-clause-count
 returns-then-left-eq0-clause-count g c =
