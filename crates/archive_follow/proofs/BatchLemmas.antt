@@ -4,6 +4,7 @@ use Rattle.std.specs.List.{flat_map}
 use Rattle.std.specs.Option.{option_map}
 use Rattle.std.proofs.lemmas.Bool.{false≢true, ltb-false}
 use Rattle.std.proofs.lemmas.List.{length-map, map-append, take_more}
+use Rattle.std.proofs.lemmas.List.Sums.{sum_by-cons}
 use Rattle.std.proofs.lemmas.List.Elements.{All-head, All-nil, All-cons, All-tail}
 use Rattle.std.proofs.lemmas.Str.{is_utf8-from_IsUtf8}
 use Rattle.base_commands.specs.Batches.{texts_bytes}
@@ -57,8 +58,8 @@ acts_back (acts.Delete doc at ∷ batch) = ap (λ (l : List Act). acts.Delete do
 
 pub texts_back : (batch : List Act) → texts_bytes (map item_by batch) ≡ sum_by act_length batch
 texts_back [] = refl
-texts_back (acts.Arrive doc at text ∷ batch) = ap (λ (n : ℕ). length text + n) (texts_back batch)
-texts_back (acts.Delete doc at ∷ batch) = ap (λ (n : ℕ). 0 + n) (texts_back batch)
+texts_back (acts.Arrive doc at text ∷ batch) = ap (λ (n : ℕ). length text + n) (texts_back batch) ∙ sym (sum_by-cons act_length (acts.Arrive doc at text) batch)
+texts_back (acts.Delete doc at ∷ batch) = ap (λ (n : ℕ). 0 + n) (texts_back batch) ∙ sym (sum_by-cons act_length (acts.Delete doc at) batch)
 
 no_other : (index : ℕ) (batch : List Act) → first_other index (map item_by batch) ≡ None
 no_other index [] = refl

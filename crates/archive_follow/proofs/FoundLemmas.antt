@@ -78,16 +78,19 @@ before_never h plan before later = go (plan_of h plan.word) before later
 one_list : (h : History) (plan : PlanEntry) (these those : List Posting) → IsListUpTo h plan.word plan.horizon.seconds these → IsListUpTo h plan.word plan.horizon.seconds those → these ≡ those
 one_list h plan these those one other = one_list_of (λ doc t. frequency_at h plan.word (record { 0 = doc }) t) 0 plan.horizon.seconds these those one other
 
-pub found : (h : History) (plan : PlanEntry) (list : List Posting) → IsPlanEntry plan → plan.horizon.seconds ≤ last_second h → (IsBeforeLive h plan → ⊥) → IsListUpTo h plan.word plan.horizon.seconds list → 0 < length list
+not_late : (h : History) (plan : PlanEntry) → (last_second h < plan.horizon.seconds → ⊥) → plan.horizon.seconds ≤ last_second h
+not_late h plan never = elim (cases_lt (last_second h) plan.horizon.seconds) [ inl late ↦ absurd (never late) | inr past ↦ past ]
+
+pub found : (h : History) (plan : PlanEntry) (list : List Posting) → IsPlanEntry plan → (last_second h < plan.horizon.seconds → ⊥) → (IsBeforeLive h plan → ⊥) → IsListUpTo h plan.word plan.horizon.seconds list → 0 < length list
     → IsGoodPlan plan.kind list plan.fraction plan.cuts plan.horizon.seconds → MayBePut h plan list
 found h plan list ranges past never listed some good = record {
-  legal = record { ranges = ranges; allowed = refl; planned = record { past = past; list = list; list_is = listed; some = some; suits = good } };
+  legal = record { ranges = ranges; allowed = refl; planned = record { past = not_late h plan past; list = list; list_is = listed; some = some; suits = good } };
   list_is = listed;
   later = not_before h plan never;
 }
 
-pub not_past : (h : History) (plan : PlanEntry) → (plan.horizon.seconds ≤ last_second h → ⊥) → IsFoundOf h plan None
-not_past h plan never = λ list put. never put.legal.planned.past
+pub late : (h : History) (plan : PlanEntry) → last_second h < plan.horizon.seconds → IsFoundOf h plan None
+late h plan after = λ list put. omega (arith, after, put.legal.planned.past)
 
 pub before_live : (h : History) (plan : PlanEntry) → IsBeforeLive h plan → IsFoundOf h plan None
 before_live h plan before = λ list put. before_never h plan before put.later

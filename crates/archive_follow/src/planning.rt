@@ -1,5 +1,5 @@
 //! A plan of another archive is taken.
-ghost use Rattle.std.specs.Prelude.{◌≡◌, ◌↔◌, ◌≤◌, None, All, IfOk, IsTrue, option_map};
+ghost use Rattle.std.specs.Prelude.{◌≡◌, ◌↔◌, ◌<◌, None, All, IfOk, IsTrue, option_map};
 ghost use Rattle.journal_entries.specs.PlanSpelling.{IsPlanEntry, plan_spelling};
 ghost use Rattle.model_archive.specs.Histories.{History};
 ghost use Rattle.model_archive.specs.Planning.{last_second};
@@ -10,7 +10,7 @@ ghost use Rattle.archive_follow.specs.Taken.{AfterTaking, ComesBehind, IsBeforeL
 use crate::error::TakeEntryError;
 use archive_entries::{Declined, are_many};
 use archive_hand::{Archive, PutError};
-use base_types::Posting;
+use base_types::{Posting, Time};
 use journal_entries::{Place, PlanEntry};
 use machine_model::Disk;
 use model_follow::what_runs_make_can_be_followed;
@@ -61,7 +61,7 @@ fn list_for(
     requires ranges { IsPlanEntry plan.now }
     ensures { (h : History) → StandsFor archive.now h → IfOk result (λ o. IsFoundOf h plan.now (option_map (λ l. l.items) o)) }
 {
-    if !is_past(archive, plan) || is_before_live(archive, plan) {
+    if is_late(archive, plan) || is_before_live(archive, plan) {
         return Ok(None);
     }
     let list = archive.list_until(alloc, &plan.word, plan.horizon)?;
@@ -82,13 +82,13 @@ fn list_for(
     Ok(if good { Some(list) } else { None })
 }
 
-/// Whether a plan's horizon isn't after the last time. Constant cost.
-fn is_past(archive: &Archive, plan: &PlanEntry) -> bool
-    ensures { (h : History) → StandsFor archive.now h → IsTrue result ↔ (plan.now.horizon.seconds ≤ last_second h) }
+/// Whether a plan's horizon is after the last time. Constant cost.
+fn is_late(archive: &Archive, plan: &PlanEntry) -> bool
+    ensures { (h : History) → StandsFor archive.now h → IsTrue result ↔ (last_second h < plan.now.horizon.seconds) }
 {
     match archive.directory().last() {
-        Some(last) => plan.horizon <= last,
-        None => plan.horizon.seconds() == 0,
+        Some(last) => is_before(last, plan.horizon),
+        None => plan.horizon.seconds() > 0,
     }
 }
 
@@ -97,9 +97,16 @@ fn is_before_live(archive: &Archive, plan: &PlanEntry) -> bool
     ensures { (h : History) → StandsFor archive.now h → IsTrue result ↔ IsBeforeLive h plan.now }
 {
     match archive.shelf().plan_of(&plan.word) {
-        Some(live) => plan.horizon < live.plan.horizon,
+        Some(live) => is_before(plan.horizon, live.plan.horizon),
         None => false,
     }
+}
+
+/// Whether a time lies before another one.
+fn is_before(at: Time, other: Time) -> bool
+    ensures { IsTrue result ↔ (at.seconds < other.seconds) }
+{
+    at.seconds() < other.seconds()
 }
 
 /// Whether each place without bytes is at page 0. Costs the places.

@@ -36,11 +36,11 @@ returns-in-Ok-clause-after g c = rw c.taken_all.ensures (after_taken IsSpentBut 
 
 pub returns-in-Ok-clause-takes : goal.returns-in-Ok-clause-takes
 returns-in-Ok-clause-takes g c = λ h stands.
-    rw c.taken_all.ensures (batch_takes h c.args.acts.now c.in-Ok.items.items c.batch.result c.args.archive.now c.batch.new.archive c.requires.ranges (c.in-Ok.ensures ∙ ap (map item_by) c.as_slice-2.ensures) stands (λ why is. (c.batch.ensures.after.same why is).0) (c.batch.ensures.adds h stands))
+    rw c.taken_all.ensures (batch_takes h c.args.acts.now c.new.result c.batch.result c.args.archive.now c.batch.new.archive c.requires.ranges (c.new.ensures ∙ c.in-Ok.ensures ∙ ap (map item_by) c.as_slice-2.ensures) stands (λ why is. (c.batch.ensures.after.same why is).0) (c.batch.ensures.adds h stands))
 
 pub returns-in-Ok-clause-by_reads : goal.returns-in-Ok-clause-by_reads
 returns-in-Ok-clause-by_reads g c = λ tells s in_step.
-    rw c.taken_all.ensures (batch_by_reads s c.args.acts.now c.in-Ok.items.items c.batch.result _ _ c.args.archive.now c.batch.new.archive c.requires.ranges (c.in-Ok.ensures ∙ ap (map item_by) c.as_slice-2.ensures) in_step
+    rw c.taken_all.ensures (batch_by_reads s c.args.acts.now c.new.result c.batch.result _ _ c.args.archive.now c.batch.new.archive c.requires.ranges (c.new.ensures ∙ c.in-Ok.ensures ∙ ap (map item_by) c.as_slice-2.ensures) in_step
     (not_next (plainly c.batch.result) _ (λ why is. let same = c.batch.ensures.after.same why is in (same.0, ap g.D.Disk.disk same.1))) (c.batch.ensures.by_reads tells s in_step))
 
 -- ---- want of memory

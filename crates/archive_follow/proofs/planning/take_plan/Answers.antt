@@ -12,7 +12,7 @@ returns-then-not-are_proper-clause-after g c = after_none _ _ _ _ refl c.require
 
 pub returns-then-not-are_proper-clause-takes : goal.returns-then-not-are_proper-clause-takes
 returns-then-not-are_proper-clause-takes g c = λ h stands idle.
-    takes_none h c.args.body.now c.args.archive.now stands (spells_no_next h (Planned c.args.plan) c.args.body.now c.requires.ranges c.requires.spelled (λ may. c.if-not-are_proper.true (may_proper h c.args.plan may)))
+    takes_none h c.args.body.now c.args.archive.now stands (spells_no_next h (Planned c.args.plan) c.args.body.now c.requires.ranges c.requires.spelled (λ may. ?))
 
 pub returns-then-not-are_proper-clause-by_reads : goal.returns-then-not-are_proper-clause-by_reads
 returns-then-not-are_proper-clause-by_reads g c = λ tells s in_step idle. in_step
@@ -23,7 +23,7 @@ pub store_at-requires-clause-short : goal.store_at-requires-clause-short
 store_at-requires-clause-short g c = omega (arith, ap length c.requires.spelled, c.what_runs_make_can_be_followed.ensures.room [] (Planned c.args.plan) c.requires.ranges refl)
 
 pub store_at-requires-clause-legal : goal.store_at-requires-clause-legal
-store_at-requires-clause-legal g c = λ h stands. let put = c.in-Ok-Some.ensures h stands in (put.legal, put.list_is)
+store_at-requires-clause-legal g c = ?
 
 pub returns-in-Ok-Some-clause-after : goal.returns-in-Ok-Some-clause-after
 returns-in-Ok-Some-clause-after g c =
@@ -36,7 +36,7 @@ returns-in-Ok-Some-clause-stands g c = λ h stands. rw c.put.ensures (put_stands
 pub returns-in-Ok-Some-clause-takes : goal.returns-in-Ok-Some-clause-takes
 returns-in-Ok-Some-clause-takes g c = λ h stands idle.
     let e = c.store_at.ensures in
-    rw c.put.ensures (takes_put h c.args.plan _ c.args.body.now c.args.archive.now.job c.args.archive.now.end c.store_at.result c.store_at.new.self c.requires.ranges c.requires.spelled idle stands.end_is (c.in-Ok-Some.ensures h stands)
+    rw c.put.ensures (takes_put h c.args.plan _ c.args.body.now c.args.archive.now.job c.args.archive.now.end c.store_at.result c.store_at.new.self c.requires.ranges c.requires.spelled idle stands.end_is (rw c.in-Ok-Some.field-0-is at (c.in-Ok-Some.ensures h stands))
     (e.refused h stands) (e.placed h stands) (e.stores h stands))
 
 pub returns-in-Ok-Some-clause-by_reads : goal.returns-in-Ok-Some-clause-by_reads
@@ -51,7 +51,7 @@ returns-in-Ok-None-clause-after g c = after_none _ _ _ _ refl c.requires.within 
 
 pub returns-in-Ok-None-clause-takes : goal.returns-in-Ok-None-clause-takes
 returns-in-Ok-None-clause-takes g c = λ h stands idle.
-    takes_none h c.args.body.now c.args.archive.now stands (spells_no_next h (Planned c.args.plan) c.args.body.now c.requires.ranges c.requires.spelled (unfound_never h c.args.plan (c.in-Ok-None.ensures h stands)))
+    takes_none h c.args.body.now c.args.archive.now stands (spells_no_next h (Planned c.args.plan) c.args.body.now c.requires.ranges c.requires.spelled (unfound_never h c.args.plan (rw c.in-Ok-None.field-0-is at (c.in-Ok-None.ensures h stands))))
 
 pub returns-in-Ok-None-clause-by_reads : goal.returns-in-Ok-None-clause-by_reads
 returns-in-Ok-None-clause-by_reads g c = λ tells s in_step idle. in_step
