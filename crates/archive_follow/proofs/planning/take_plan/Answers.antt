@@ -1,6 +1,8 @@
-use Rattle.std.proofs.Common.{[], length, refl, ap, arith}
+use Rattle.std.proofs.Common.{[], length, refl, ap, sym, ◌∙◌, arith}
+use Rattle.std.proofs.lemmas.Bool.{false≢true}
 use Rattle.journal_entries.specs.declared.entry.Entry.TheVariants.{Planned}
 use Rattle.archive_hand.proofs.ByReadsLemmas.{keeps_nowhere}
+use Rattle.archive_follow.specs.Taken.{MayBePut}
 use Rattle.archive_follow.proofs.PutLemmas.{may_proper, put_after, put_by, put_stands, takes_put, unfound_never}
 use Rattle.archive_follow.proofs.TakenLemmas.{after_none, after_starved, spells_no_next, takes_none, takes_starved}
 use Rattle.archive_follow.proofs.planning.take_plan.Goals as goal
@@ -12,7 +14,8 @@ returns-then-not-are_proper-clause-after g c = after_none _ _ _ _ refl c.require
 
 pub returns-then-not-are_proper-clause-takes : goal.returns-then-not-are_proper-clause-takes
 returns-then-not-are_proper-clause-takes g c = λ h stands idle.
-    takes_none h c.args.body.now c.args.archive.now stands (spells_no_next h (Planned c.args.plan) c.args.body.now c.requires.ranges c.requires.spelled (λ may. ?))
+    let proper = rw c.as_slice.ensures at c.are_proper.ensures in
+    takes_none h c.args.body.now c.args.archive.now stands (spells_no_next h (Planned c.args.plan) c.args.body.now c.requires.ranges c.requires.spelled (λ may. false≢true (sym c.if-not-are_proper.true ∙ proper.1 (may_proper h c.args.plan may))))
 
 pub returns-then-not-are_proper-clause-by_reads : goal.returns-then-not-are_proper-clause-by_reads
 returns-then-not-are_proper-clause-by_reads g c = λ tells s in_step idle. in_step
@@ -23,7 +26,9 @@ pub store_at-requires-clause-short : goal.store_at-requires-clause-short
 store_at-requires-clause-short g c = omega (arith, ap length c.requires.spelled, c.what_runs_make_can_be_followed.ensures.room [] (Planned c.args.plan) c.requires.ranges refl)
 
 pub store_at-requires-clause-legal : goal.store_at-requires-clause-legal
-store_at-requires-clause-legal g c = ?
+store_at-requires-clause-legal g c = λ h stands.
+    let put : MayBePut h c.args.plan c.in-Ok-Some.list.items = rw c.in-Ok-Some.field-0-is at (c.in-Ok-Some.ensures h stands) in
+    rw c.deref.ensures.value (put.legal, put.list_is)
 
 pub returns-in-Ok-Some-clause-after : goal.returns-in-Ok-Some-clause-after
 returns-in-Ok-Some-clause-after g c =
@@ -36,7 +41,8 @@ returns-in-Ok-Some-clause-stands g c = λ h stands. rw c.put.ensures (put_stands
 pub returns-in-Ok-Some-clause-takes : goal.returns-in-Ok-Some-clause-takes
 returns-in-Ok-Some-clause-takes g c = λ h stands idle.
     let e = c.store_at.ensures in
-    rw c.put.ensures (takes_put h c.args.plan _ c.args.body.now c.args.archive.now.job c.args.archive.now.end c.store_at.result c.store_at.new.self c.requires.ranges c.requires.spelled idle stands.end_is (rw c.in-Ok-Some.field-0-is at (c.in-Ok-Some.ensures h stands))
+    let put : MayBePut h c.args.plan c.in-Ok-Some.list.items = rw c.in-Ok-Some.field-0-is at (c.in-Ok-Some.ensures h stands) in
+    rw c.put.ensures (takes_put h c.args.plan c.deref.result.now c.args.body.now c.args.archive.now.job c.args.archive.now.end c.store_at.result c.store_at.new.self c.requires.ranges c.requires.spelled idle stands.end_is (rw c.deref.ensures.value put)
     (e.refused h stands) (e.placed h stands) (e.stores h stands))
 
 pub returns-in-Ok-Some-clause-by_reads : goal.returns-in-Ok-Some-clause-by_reads
