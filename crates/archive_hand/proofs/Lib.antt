@@ -9,6 +9,7 @@ mod SealLemmas
 mod LiveLemmas
 mod PutLemmas
 mod StoreLemmas
+mod AtLemmas
 mod LoadLemmas
 mod JobLemmas
 mod WorkLemmas

@@ -7,3 +7,4 @@ pub mod Adding
 pub mod Asking
 pub mod Takes
 pub mod Storing
+pub mod StoringAt

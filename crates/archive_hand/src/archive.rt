@@ -1,5 +1,5 @@
 //! The open archive, and what it is asked that keeps it consistent.
-ghost use Rattle.std.specs.Prelude.{◌≡◌, ◌+◌, ◌<◌, ◌≤◌, [], length, get_or, is_some, option_map, Some, None, Ok, Err, IfOk, IfErr, IsErr, OnOk};
+ghost use Rattle.std.specs.Prelude.{◌≡◌, ◌+◌, ◌<◌, ◌≤◌, [], length, get_or, is_some, option_map, Some, None, Ok, Err, IfOk, IfErr, IsErr, IsTrue, OnOk};
 ghost use Rattle.journal_gates.specs.Records.{new_bytes};
 ghost use Rattle.machine_model.specs.Calls.{OnlyReads};
 ghost use Rattle.pages_sublists.specs.Fetching.{IfDamaged, IfFailed};
@@ -232,6 +232,14 @@ impl Archive {
         ensures { result.now ≡ self.now.asked }
     {
         &self.asked
+    }
+
+    /// A live archive stands for a history, which it shows on any disk. Does nothing.
+    pub fn stands(&self)
+        requires { IsTrue self.now.live }
+        ensures { (h : History) × StandsFor self.now h }
+    {
+        let _ = &self.journal;
     }
 
     /// Notes that some words were asked for as of a time. An error leaves all as it was. Costs the words'

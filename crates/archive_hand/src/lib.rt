@@ -16,6 +16,7 @@ mod laws;
 mod loading;
 mod sealing;
 mod storing;
+mod storing_at;
 mod working;
 
 pub use archive::Archive;
@@ -24,3 +25,4 @@ pub use error::ChangeError;
 pub use job::{Begun, Job, STINT_PAGES, Stint};
 pub use laws::an_archive_in_step_stands;
 pub use sealing::Sealed;
+pub use storing_at::PutError;

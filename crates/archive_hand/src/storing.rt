@@ -102,7 +102,7 @@ impl Archive {
 
 /// Writes what is ready, first the sublists and then the entry; the plan takes the place of the one that its
 /// word had, whose pages are free only then. Takes no memory.
-fn write_ready<D: Disk>(
+pub(crate) fn write_ready<D: Disk>(
     disk: &mut D,
     journal: &mut Journal,
     shelf: &mut Shelf,

@@ -2,3 +2,4 @@ pub mod Framing
 pub mod Segments
 pub mod Shelves
 pub mod Readying
+pub mod ReadyingAt

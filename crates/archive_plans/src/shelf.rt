@@ -14,7 +14,9 @@ ghost use Rattle.pages_area.specs.Caches.{StandsFor, after_asking_all, missed_by
 ghost use Rattle.pages_area.specs.CacheLaws.{LieIn};
 ghost use Rattle.lists_postings.specs.Lists.{IsList};
 ghost use Rattle.journal_entries.specs.declared.place.Layout.TheVariants.{Blocks};
+ghost use Rattle.pages_sublists.specs.PlacedAt.{IsPlaceFault};
 ghost use Rattle.pages_sublists.specs.Preparing.{IsFor, extents, sizes, spellings};
+ghost use Rattle.journal_entries.specs.declared.place.Place.{Place as PlainPlace};
 ghost use Rattle.pages_sublists.specs.Segments.{seconds};
 ghost use Rattle.std.specs.List.{AllZip};
 ghost use Rattle.model_archive.specs.Plans.{is_another, with_plan};
@@ -24,11 +26,11 @@ ghost use Rattle.archive_entries.specs.Live.{EachOnce, IsPlanAt};
 
 use archive_entries::{LoadError, position_of, put_live};
 use base_types::{Extent, Key, Posting, Span, Time};
-use journal_entries::{Layout, Place};
+use journal_entries::{Layout, Place, PlanEntry};
 use machine_model::{Area, Disk, Failed};
 use model_archive::StoredPlan;
 use pages_area::{LiveError, TakeError};
-use pages_sublists::{FetchError, Gathered, Prepared, Sublists};
+use pages_sublists::{FetchError, Gathered, PlaceError, Prepared, Sublists};
 use std::alloc::{AllocError, Global};
 use std::marker::Model;
 
@@ -178,6 +180,41 @@ impl Shelf {
     {
         self.sublists
             .prepare(alloc, Layout::Blocks, list, cuts, horizon)
+    }
+
+    /// Spells the sublists of a plan in its own layout, and takes the plan's own places for them. Costs what
+    /// `Sublists::prepare_at` does.
+    pub fn prepare_at(
+        &mut self,
+        alloc: Global,
+        plan: &PlanEntry,
+        list: &[Posting],
+    ) -> Result<Prepared, PlaceError>
+        requires list { IsList list.now }
+        requires as_many { length plan.now.places ≡ length plan.now.cuts }
+        requires proper { All (λ (p : PlainPlace). p.extent.bytes ≡ 0 → p.extent.first ≡ 0) plan.now.places }
+        requires taken { (taken : List PlainExtent) × HasTaken self.old.pages taken }
+        ensures plans { self.new.plans ≡ self.old.plans }
+        ensures cache { self.new.cache ≡ self.old.cache }
+        ensures room { self.new.room ≡ self.old.room }
+        ensures spelled { IfOk result (λ p. p.spellings ≡ spellings plan.now.layout list.now (seconds plan.now.cuts) plan.now.horizon.seconds) }
+        ensures places { IfOk result (λ p. p.places ≡ plan.now.places) }
+        ensures each { IfOk result (λ p. AllZip IsFor p.places p.spellings) }
+        ensures taken { (taken : List PlainExtent) → HasTaken self.old.pages taken
+            → IfOk result (λ p. HasTaken self.new.pages (extents p.places ++ taken)) }
+        ensures refused { (taken : List PlainExtent) → HasTaken self.old.pages taken
+            → IfErr result (IsPlaceFault taken plan.now.places
+            (spellings plan.now.layout list.now (seconds plan.now.cuts) plan.now.horizon.seconds)) }
+        ensures none { (taken : List PlainExtent) → HasTaken self.old.pages taken → OnErr result (HasTaken self.new.pages taken) }
+    {
+        self.sublists.prepare_at(
+            alloc,
+            plan.layout,
+            list,
+            plan.cuts.as_slice(),
+            plan.horizon,
+            plan.places.as_slice(),
+        )
     }
 
     /// Gives the pages of sublists back that were prepared. Takes no memory.

@@ -1,5 +1,5 @@
 //! A page on which replies are written.
-ghost use Rattle.std.specs.Prelude.{◌≡◌, ◌+◌, ◌≤◌, [], ◌++◌, length, codes, decimal, Some, None, IfOk, OnOk, OnErr};
+ghost use Rattle.std.specs.Prelude.{◌≡◌, ◌+◌, ◌≤◌, [], ◌∷◌, ◌++◌, length, codes, decimal, Some, None, IfOk, OnOk, OnErr};
 ghost use Rattle.archive_replies.specs.Pages.{reply_room};
 ghost use Rattle.model_archive.specs.Replies.{approx_text, cost_text, detail_text, end_text, full_text, near_text, node_text, reply_text, row_text, segment_text, space_text, span_text, summary_line, which_text, best_end_text};
 ghost use Rattle.model_archive.specs.Steps.{Accepted, Refused, RefusedIn, Found, FoundBest, Spanned, Approximated, Neared, Version, Proposed, Planned, Begun, Finished, Silent};
@@ -206,6 +206,17 @@ impl ReplyPage {
     {
         self.clear();
         self.put_summary(b"done", summary);
+    }
+
+    /// Writes a line of a word, which a blank may end, and a number behind it, in place of what the page held.
+    /// It takes no memory. Constant cost.
+    pub fn numbered(&mut self, word: &[u8], number: u64)
+        requires { length word.now ≤ 100 }
+        ensures { self.new.bytes ≡ word.now ++ decimal number ++ 10 ∷ [] }
+    {
+        self.clear();
+        self.put_named(word, number);
+        self.put(b"\n");
     }
 
     /// Says nothing, in place of what the page held. It takes no memory. Constant cost.

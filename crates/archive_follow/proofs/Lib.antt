@@ -1,0 +1,5 @@
+mod TakenLemmas
+mod RefusalLemmas
+mod BatchLemmas
+mod PutLemmas
+mod FoundLemmas

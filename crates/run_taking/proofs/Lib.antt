@@ -1,0 +1,6 @@
+mod PacketLemmas
+mod ShownLemmas
+mod EndLemmas
+mod ServeLemmas
+mod StandLemmas
+mod StartLemmas

@@ -1,0 +1,134 @@
+-- What comes of a packet: the entry that it has is there or is taken, or how the run ends says why not.
+use Rattle.std.proofs.Common.{◌≡◌, ◌⊎◌, ℕ, ◌+◌, ◌-◌, ◌<◌, ◌≤◌, List, [], ◌∷◌, ◌++◌, length, map, slice_get, MatchOption, Option, Some, None, Result, Ok, Err, IsTrue, inl, inr, refl, ap, sym, subst, ◌∙◌, arith}
+use Rattle.std.proofs.lemmas.List.{length-map}
+use Rattle.machine_model.specs.Areas.{Bytes}
+use Rattle.machine_model.specs.Calls.{OnlyReads}
+use Rattle.machine_model.specs.Images.{MayLeave}
+use Rattle.machine_model.specs.States.{DiskState}
+use Rattle.journal_bodies.specs.Numbered.{AreIn, NumberedState}
+use Rattle.journal_entries.proofs.EntryLemmas.{one_entry}
+use Rattle.journal_entries.specs.Spelling.{spelling}
+use Rattle.journal_entries.specs.declared.entry.Entry.{Entry}
+use Rattle.journal_gates.specs.Heads.{heads_of}
+use Rattle.journal_gates.specs.Records.{first_gate, front}
+use Rattle.journal_gates.specs.Windows.{IsView}
+use Rattle.journal_gates.proofs.InStepLemmas.{step_spells}
+use Rattle.journal_packets.specs.Cases.{IsKeptCase, IsNewCase}
+use Rattle.journal_packets.specs.Packets.{Framed, IsFramed}
+use Rattle.journal_packets.specs.declared.case.Case.{Case}
+use Rattle.journal_packets.specs.declared.case.Case.TheVariants as cases
+use Rattle.model_archive.specs.Histories.{History}
+use Rattle.model_archive.specs.Plans.{live_extents}
+use Rattle.model_archive.specs.Stands.{bodies_of}
+use Rattle.archive_hand.specs.Changing.{KeepsBy, LeadsBy}
+use Rattle.archive_hand.specs.States.{ArchiveState, AreInStepBy, CacheStands, with_reads}
+use Rattle.archive_hand.specs.Stored.{Store, Stocks}
+use Rattle.archive_hand.proofs.ByReadsLemmas.{keeps_leads, keeps_nowhere, keeps_reads, reads_by, stocks_same}
+use Rattle.archive_hand.proofs.AddLemmas.{bodies_more}
+use Rattle.model_follow.specs.Following.{CannotBeTaken, DiffersAt, IsBeyond, Note, Had, Took, note_text}
+use Rattle.model_follow.specs.Taking.{MayBeTaken, SpellsNext}
+use Rattle.archive_follow.specs.Taken.{Takes, TakesBody, TakesBy}
+use Rattle.archive_follow.specs.declared.error.TakeEntryError.{TakeEntryError}
+use Rattle.archive_follow.specs.declared.error.TakeEntryError.TheVariants as takes
+use Rattle.run_taking.specs.Following.{EndsFor}
+use Rattle.run_taking.specs.Serving.{CameOf, IsCaseOf, IsFollowing, StoreFollows}
+use Rattle.run_taking.specs.declared.ended.Ended.{Ended}
+use Rattle.run_taking.specs.declared.ended.Ended.TheVariants as ends
+
+-- ---- which case a packet is
+
+pub new_case : (h : History) (p : Framed) (have : ℕ) (case : Case) → have ≡ length h → IsNewCase have p.number case → IsCaseOf h p case
+new_case h p have cases.Had same is = absurd is
+new_case h p have (cases.Conflict place kept got) same is = absurd is
+new_case h p have cases.Gap same is = omega (arith, same, is)
+new_case h p have cases.Next same is = is ∙ ap (λ (n : ℕ). n + 1) same
+
+pub kept_case : (h : History) (p : Framed) (kept : List ℕ) (case : Case) → IsFramed p → slice_get (bodies_of h) (p.number - 1) ≡ Some kept → IsKeptCase kept p.body case → IsCaseOf h p case
+kept_case h p kept cases.Had proper there same = record { proper = proper; is = there ∙ ap (λ (l : List ℕ). Some l) (sym same) }
+kept_case h p kept (cases.Conflict place one other) proper there differ = (proper.counted, kept, there, differ)
+kept_case h p kept cases.Gap proper there is = absurd is
+kept_case h p kept cases.Next proper there is = absurd is
+
+-- there are as many bodies as entries
+count_heads : (gate : ℕ) (bodies : List (List ℕ)) → length (heads_of gate bodies) ≡ length bodies
+count_heads gate [] = refl
+count_heads gate (body ∷ bodies) = ap (λ (n : ℕ). n + 1) (count_heads (gate + 5 + length body) bodies)
+
+pub as_many : (journal : List ℕ) (h : History) (numbered : NumberedState) → AreIn journal (bodies_of h) numbered → length numbered.heads ≡ length h
+as_many journal h numbered are = ap length are.heads_are ∙ count_heads first_gate (bodies_of h) ∙ length-map h spelling
+
+-- ---- a packet whose entry is there
+
+-- reading a body leaves what is stored
+pub read_on : (s : Store) (old new : DiskState) (archive : ArchiveState) (was numbered : NumberedState) → IsFollowing old archive was s → OnlyReads old new → AreIn old.holds.journal (bodies_of s.history) numbered → IsFollowing new archive numbered (with_reads s archive new)
+read_on s old new archive was numbered following reads bodies =
+    let holds : new.holds ≡ old.holds = ap (λ (d : DiskState). d.holds) reads in
+    record {
+      in_step = reads_by s old new archive archive following.in_step reads refl (subst (λ (b : Bytes). CacheStands (record new { holds = b }) archive) (sym holds) following.in_step.cached);
+      idle = following.idle;
+      bodies = subst (λ (b : Bytes). AreIn b.journal (bodies_of s.history) numbered) (sym holds) bodies;
+    }
+
+pub had_by : (s : Store) (at : ℕ) (p : Framed) (old new : DiskState) (archive : ArchiveState) (was numbered : NumberedState) (page : List ℕ) → IsFollowing old archive was s → OnlyReads old new
+    → AreIn old.holds.journal (bodies_of s.history) numbered → IsCaseOf s.history p cases.Had → page ≡ note_text (Had p.number) → CameOf s at p (Ok tt) old new archive numbered page
+had_by s at p old new archive was numbered page following reads bodies case page_is =
+    let next = with_reads s archive new in (
+      Had p.number,
+      next,
+      ((refl, case, refl), stocks_same s archive new following.in_step.live),
+      keeps_leads s next old new (keeps_reads old new archive s following.in_step reads),
+      read_on s old new archive was numbered following reads bodies,
+      page_is,
+    )
+
+-- ---- a packet whose number comes next
+
+-- what is taken is the packet's entry
+followed : (s next : Store) (p : Framed) (old new : DiskState) → Takes s next p.body old new → SpellsNext s.history p.body → p.number ≡ length s.history + 1 → StoreFollows s p (Took p.number) next
+followed s next p old new took may counted =
+    let (entry, spelled, taken) = may in
+    let same : entry ≡ took.entry = one_entry entry took.entry taken.legal.ranges took.ranges (sym spelled ∙ took.spelled) in (
+      (refl, counted, (took.entry, took.spelled, subst (λ (e : Entry). MayBeTaken s.history e) same taken, took.next_is)),
+      took.stocks,
+    )
+
+-- where it was taken the bodies have its bytes behind the others
+taken_bodies : (s next : Store) (p : Framed) (old new : DiskState) (archive archive_now : ArchiveState) (was numbered : NumberedState) → MayLeave new.now new.holds → IsFollowing old archive was s → Takes s next p.body old new → AreInStepBy new archive_now next
+    → (numbered.heads ≡ heads_of first_gate (bodies_of s.history ++ p.body ∷ [])) → ((bytes : List ℕ) → IsView numbered.window bytes) → AreIn new.holds.journal (bodies_of next.history) numbered
+taken_bodies s next p old new archive archive_now was numbered allowed following took in_step heads view = record {
+  spelled = step_spells new archive_now.end (bodies_of next.history) in_step.journal new.holds allowed;
+  heads_are = heads ∙ ap (heads_of first_gate) (sym (ap bodies_of took.next_is ∙ bodies_more s.history took.entry p.body took.spelled));
+  view = view new.holds.journal;
+}
+
+-- how a run ends by why an entry wasn't taken
+abbrev pub end_of_take : ℕ → TakeEntryError → Ended
+end_of_take at takes.NotNext = ends.Packet at
+end_of_take at takes.Failed = ends.Disk
+end_of_take at takes.Memory = ends.Memory
+
+pub took_by : (s : Store) (at : ℕ) (p : Framed) (n : ℕ) (old new : DiskState) (archive archive_now : ArchiveState) (was numbered : NumberedState) → MayLeave new.now new.holds → IsFollowing old archive was s → p.number ≡ length s.history + 1
+    → TakesBody s.history p.body (Ok n) archive_now → TakesBy s p.body (Ok n) old new archive_now → (numbered.heads ≡ heads_of first_gate (bodies_of s.history ++ p.body ∷ [])) → ((bytes : List ℕ) → IsView numbered.window bytes)
+    → CameOf s at p (Ok tt) old new archive_now numbered (note_text (Took p.number))
+took_by s at p n old new archive archive_now was numbered allowed following counted body (next, took, in_step) heads view = (
+  Took p.number,
+  next,
+  followed s next p old new took (body.allowed (inl refl)) counted,
+  took.leads,
+  record { in_step = in_step; idle = took.job_is ∙ following.idle; bodies = taken_bodies s next p old new archive archive_now was numbered allowed following took in_step heads view },
+  refl,
+)
+
+pub untaken_by : (s : Store) (at : ℕ) (p : Framed) (error : TakeEntryError) (old new : DiskState) (archive archive_now : ArchiveState) (was numbered : NumberedState) (page : List ℕ) → IsFollowing old archive was s → p.number ≡ length s.history + 1
+    → TakesBody s.history p.body (Err error) archive_now → TakesBy s p.body (Err error) old new archive_now → (error ≡ takes.NotNext → new ≡ old) → CameOf s at p (Err (end_of_take at error)) old new archive_now numbered page
+untaken_by s at p takes.NotNext old new archive archive_now was numbered page following counted body by same =
+    (subst (λ (d : DiskState). KeepsBy s old d) (sym (same refl)) (keeps_nowhere old archive s following.in_step), (refl, (counted, (body.refused refl).0)))
+untaken_by s at p takes.Failed old new archive archive_now was numbered page following counted body (inl keeps) same = inl keeps
+untaken_by s at p takes.Failed old new archive archive_now was numbered page following counted body (inr (next, took)) same =
+    inr (Took p.number, next, followed s next p old new took (body.allowed (inr refl)) counted, took.leads)
+untaken_by s at p takes.Memory old new archive archive_now was numbered page following counted body keeps same = (keeps, tt)
+
+-- ---- a packet that ends the run, after a body was read
+
+pub ended_reading : (s : Store) (at : ℕ) (p : Framed) (old new : DiskState) (archive : ArchiveState) (was : NumberedState) → IsFollowing old archive was s → OnlyReads old new → KeepsBy s old new
+ended_reading s at p old new archive was following reads = keeps_reads old new archive s following.in_step reads

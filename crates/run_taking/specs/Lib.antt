@@ -1,0 +1,3 @@
+pub mod Following
+pub mod Serving
+pub mod Laws
