@@ -42,28 +42,28 @@ has_given a words m is h name =
     first_value-rows (found_of m) name ∙ ap (first_of name) (h (ap is_simple is ∙ simple)).0 ∙ ap (λ (x : App). first_of name (matches_of x words)) is
 
 -- what a text that is read as a `bool` comes to, with false where there is none or it writes none
-is_true : {E : Type 0} (text : Option Text) (value : Option Bool) → (text ≡ None → value ≡ None)
+is_true : (E : Type 0) (text : Option Text) (value : Option Bool) → (text ≡ None → value ≡ None)
     → ((t : Text) → text ≡ Some t → ReadsOne {E = E} ParsesBool t value)
     → unwrap_or value false ≡ option_map_or (λ t. bytes_eq t (codes "true")) text false
-is_true None value none some = rw (none refl) refl
-is_true (Some t) value none some = go value (some t refl)
+is_true E None value none some = rw (none refl) refl
+is_true E (Some t) value none some = go value (some t refl)
   where
     go : (value : Option Bool) → ReadsOne {E = E} ParsesBool t value → unwrap_or value false ≡ bytes_eq t (codes "true")
     go (Some true) is = rw is refl
     go (Some false) is = rw is refl
-    go None no = sym (no_match (bytes_eq t (codes "true")) refl)
+    go None other = sym (no_match (bytes_eq t (codes "true")) refl)
       where
         no_match : (b : Bool) → bytes_eq t (codes "true") ≡ b → b ≡ false
-        no_match true e = absurd (no.1.0 ((bytes_eq-Decides t (codes "true")).0 e))
+        no_match true e = absurd (other.1.0 ((bytes_eq-Decides t (codes "true")).0 e))
         no_match false e = refl
 
 -- and so a parse that succeeds reads the flag as the words give it
-pub has_flag : {E : Type 0} (a : App) (words : List Text) (m : ArgMatches) → a ≡ command → HasMatchesOf a words m → (name : Text) (value : Option Bool)
+pub has_flag : (E : Type 0) (a : App) (words : List Text) (m : ArgMatches) → a ≡ command → HasMatchesOf a words m → (name : Text) (value : Option Bool)
     → (one_text (found_of m) name ≡ None → value ≡ None) → ((t : Text) → one_text (found_of m) name ≡ Some t → ReadsOne {E = E} ParsesBool t value)
     → unwrap_or value false ≡ is_given name words
 unfolding is_given
-has_flag a words m is h name value none some =
-    is_true (one_text (found_of m) name) value none some
+has_flag E a words m is h name value none some =
+    is_true E (one_text (found_of m) name) value none some
     ∙ ap (λ (text : Option Text). option_map_or (λ t. bytes_eq t (codes "true")) text false)
     (one_text-rows (found_of m) name ∙ ap (one_of name) (h (ap is_simple is ∙ simple)).0 ∙ ap (λ (x : App). one_of name (matches_of x words)) is)
 

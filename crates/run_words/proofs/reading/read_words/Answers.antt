@@ -13,7 +13,7 @@ returns c =
     let seed_is = c.get_str-seed.ensures ∙ values (codes "generate") in
     let count_is = c.get_str-count.ensures ∙ values (codes "count") in
     let from_is = c.get_str-from.ensures ∙ values (codes "export") in
-    let follow_is = c.unwrap_or-follow.ensures ∙ has_flag (app_of c.in_ok-command.field-0) words c.in_ok-matches.matches command_is c.in_ok-matches.ensures.matches
+    let follow_is = c.unwrap_or-follow.ensures ∙ has_flag _ (app_of c.in_ok-command.field-0) words c.in_ok-matches.matches command_is c.in_ok-matches.ensures.matches
     (codes "follow") c.get_one.result c.get_one.ensures.none c.get_one.ensures.value in
     record {
       read = read words takes c.task_of.result c.ok_or.result c.ok_or.ensures.value (rw (seed_is, count_is, from_is, follow_is) at c.task_of.ensures.some);
