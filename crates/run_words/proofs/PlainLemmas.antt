@@ -1,5 +1,5 @@
 -- What a parse of the program's command makes of the plain forms.
-use Rattle.std.proofs.Common.{◌≡◌, ◌≢◌, ◌↔◌, ap, refl, Bool, true, false, List, [], ◌∷◌, Option, Some, None, codes, inl, inr}
+use Rattle.std.proofs.Common.{◌≡◌, ◌≢◌, ◌↔◌, refl, Bool, true, false, List, [], ◌∷◌, Option, Some, None, codes, inl, inr}
 use Rattle.std.specs.Prelude.{slice_index}
 use Rattle.std.specs.Str.{bytes_eq}
 use Rattle.std.proofs.lemmas.Bool.{ne_eqb}

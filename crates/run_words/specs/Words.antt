@@ -43,9 +43,9 @@ given name words = first_of name (matches_of command words)
 unfoldable pub is_given : Text → List Text → Bool
 is_given name words = option_map_or (λ text. bytes_eq text (codes "true")) (one_of name (matches_of command words)) false
 
--- Three options of these values, and a flag that is given or not, ask for this: none is given; or the first two are, and they write the numbers of
--- the sample (each sample has a count from 1 to 100,000); or the third is, and it writes the number of the first entry that is exported (which is at
--- least 1); or the flag is. Each is given with nothing else.
+-- Three options of these values, and a flag that is given or not, ask for this: none of them is given; or the first two alone are, and they
+-- write the numbers of the sample (each sample has a count from 1 to 100,000); or the third alone is, and it writes the number of the first
+-- entry that is exported (which is at least 1); or the flag alone is.
 abbrev pub AskFor : Option Text → Option Text → Option Text → Bool → Task → Type 0
 AskFor seed count from follow Script = (seed ≡ None) × (count ≡ None) × (from ≡ None) × (follow ≡ false)
 AskFor seed count from follow (Generate sample) = IsSomeAnd seed (λ text. WritesNumber text sample.seed)
@@ -57,7 +57,8 @@ AskFor seed count from follow Follow = (seed ≡ None) × (count ≡ None) × (f
 -- The words ask for this.
 abbrev pub AreWords : List Text → Task → Type 0
 AreWords words task = AreTaken words
-    × AskFor (given (codes "generate") words) (given (codes "count") words) (given (codes "export") words) (is_given (codes "follow") words) task
+    × AskFor (given (codes "generate") words) (given (codes "count") words) (given (codes "export") words)
+    (is_given (codes "follow") words) task
 
 -- The words ask for nothing.
 abbrev pub AreNoWords : List Text → Type 0

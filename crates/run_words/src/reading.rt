@@ -27,7 +27,12 @@ pub fn read_words(alloc: Global, words: &[String]) -> Result<Task, WordsError>
 }
 
 /// What the values of the three options and the flag ask for, if anything. Costs their length.
-fn task_of(seed: Option<&str>, count: Option<&str>, from: Option<&str>, follow: bool) -> Option<Task>
+fn task_of(
+    seed: Option<&str>,
+    count: Option<&str>,
+    from: Option<&str>,
+    follow: bool,
+) -> Option<Task>
     ensures some { IfSome result (AskFor (option_map (λ s. s.now) seed.entry) (option_map (λ s. s.now) count.entry)
         (option_map (λ s. s.now) from.entry) follow) }
     ensures none { IfNone result ((task : Task) → AskFor (option_map (λ s. s.now) seed.entry) (option_map (λ s. s.now) count.entry)
