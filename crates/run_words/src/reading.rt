@@ -21,7 +21,7 @@ pub fn read_words(alloc: Global, words: &[String]) -> Result<Task, WordsError>
     let seed = matches.get_str("generate");
     let count = matches.get_str("count");
     let from = matches.get_str("export");
-    // (what `get_flag` answers; its clauses say nothing of a text that writes no `bool`)
+    // (this is `get_flag`, whose clauses leave open what a text that writes no `bool` gives)
     let follow = matches.get_one::<bool>("follow").unwrap_or(false);
     task_of(seed, count, from, follow).ok_or(WordsError::Refused)
 }
