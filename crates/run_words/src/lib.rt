@@ -1,12 +1,12 @@
 //! The words of the command line, and what they ask for.
 //!
-//! The program's command is one of the crate `clap` with three options, `--generate SEED`,
-//! `--count COUNT` and `--export FROM` (`specs/Words.antt`). Which words it takes and which of them is
-//! whose value is said by that crate's definitions of a parse; that the first two are given together
-//! or not at all, that the third is given alone, and which numbers their values write, is said here.
-//! To the layer above it promises that words are read as the one thing that they ask for, and refused
-//! exactly where they ask for nothing, unless memory runs out. It knows nothing of archives, and shows
-//! no text.
+//! The program's command is one of the crate `clap` with four options, `--generate SEED`,
+//! `--count COUNT`, `--export FROM` and the flag `--follow` (`specs/Words.antt`). Which words it takes,
+//! which of them is whose value, and whether they give the flag, is said by that crate's definitions of
+//! a parse; that the first two are given together or not at all, that the third and the fourth are each
+//! given alone, and which numbers their values write, is said here. To the layer above it promises that
+//! words are read as the one thing that they ask for, and refused exactly where they ask for nothing,
+//! unless memory runs out. It knows nothing of archives, and shows no text.
 #![tactic(auto)]
 
 mod command;

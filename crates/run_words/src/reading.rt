@@ -20,20 +20,29 @@ pub fn read_words(alloc: Global, words: &[String]) -> Result<Task, WordsError>
     let matches = command(alloc)?.try_get_matches_from(words)?;
     let seed = matches.get_str("generate");
     let count = matches.get_str("count");
-    task_of(seed, count, matches.get_str("export")).ok_or(WordsError::Refused)
+    let from = matches.get_str("export");
+    // (this is `get_flag`, whose clauses leave open what a text that writes no `bool` gives)
+    let follow = matches.get_one::<bool>("follow").unwrap_or(false);
+    task_of(seed, count, from, follow).ok_or(WordsError::Refused)
 }
 
-/// What the values of the three options ask for, if anything. Costs their length.
-fn task_of(seed: Option<&str>, count: Option<&str>, from: Option<&str>) -> Option<Task>
-    ensures some { IfSome result
-        (AskFor (option_map (λ s. s.now) seed.entry) (option_map (λ s. s.now) count.entry) (option_map (λ s. s.now) from.entry)) }
-    ensures none { IfNone result ((task : Task)
-        → AskFor (option_map (λ s. s.now) seed.entry) (option_map (λ s. s.now) count.entry) (option_map (λ s. s.now) from.entry) task → ⊥) }
+/// What the values of the three options and the flag ask for, if anything. Costs their length.
+fn task_of(
+    seed: Option<&str>,
+    count: Option<&str>,
+    from: Option<&str>,
+    follow: bool,
+) -> Option<Task>
+    ensures some { IfSome result (AskFor (option_map (λ s. s.now) seed.entry) (option_map (λ s. s.now) count.entry)
+        (option_map (λ s. s.now) from.entry) follow) }
+    ensures none { IfNone result ((task : Task) → AskFor (option_map (λ s. s.now) seed.entry) (option_map (λ s. s.now) count.entry)
+        (option_map (λ s. s.now) from.entry) follow task → ⊥) }
 {
-    match (seed, count, from) {
-        (None, None, None) => Some(Task::Script),
-        (Some(seed), Some(count), None) => Some(Task::Generate(numbers_of(seed, count)?)),
-        (None, None, Some(from)) => Some(Task::Export(first_of(from)?)),
+    match (seed, count, from, follow) {
+        (None, None, None, false) => Some(Task::Script),
+        (Some(seed), Some(count), None, false) => Some(Task::Generate(numbers_of(seed, count)?)),
+        (None, None, Some(from), false) => Some(Task::Export(first_of(from)?)),
+        (None, None, None, true) => Some(Task::Follow),
         _ => None,
     }
 }

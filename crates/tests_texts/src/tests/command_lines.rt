@@ -87,8 +87,19 @@ fn one_option_asks_for_an_export(rt: HostRuntime) {
     }
 }
 
+/// Lines that ask for the packets of the standard input.
+const FOLLOWS: [&str; 2] = ["--follow", "--follow --"];
+
+#[test]
+fn the_flag_asks_for_packets(rt: HostRuntime) {
+    for line in &FOLLOWS {
+        let words = words_of(&rt, rt.alloc(), line);
+        expect_same_in(&rt, line, read_words(rt.alloc(), &words), Ok(Task::Follow));
+    }
+}
+
 /// Lines that ask for nothing.
-const REFUSED: [&str; 52] = [
+const REFUSED: [&str; 73] = [
     "--generate",
     "--count",
     "--generate 0",
@@ -141,6 +152,27 @@ const REFUSED: [&str; 52] = [
     "--export 1 --generate 0 --count 2",
     "--export 1 --count 2",
     "--exp 1",
+    "--follow --follow",
+    "--follow=1",
+    "--follow=",
+    "--follow=true",
+    "--follow=false",
+    "--follow 1",
+    "--follow --export 1",
+    "--export 1 --follow",
+    "--follow --generate 0 --count 2",
+    "--generate 0 --count 2 --follow",
+    "--follow --generate 0",
+    "--count 2 --follow",
+    "--export --follow",
+    "--export=--follow",
+    "--generate --follow --count 2",
+    "--generate 0 --count=--follow",
+    "--follow --help",
+    "-- --follow",
+    "-f",
+    "--fol",
+    "follow",
 ];
 
 #[test]

@@ -2,7 +2,7 @@ use Rattle.std.proofs.Common.{◌≡◌, ◌∙◌, ap, ap₂, codes, true}
 use Rattle.std.proofs.lemmas.Result.{IfOk-weaker}
 use Rattle.clap.specs.Words.{App, app_of, new_app, rule_of, with_rule}
 use Rattle.clap.specs.Simple.{on_top, app_of_fields}
-use Rattle.run_words.specs.Words.{option}
+use Rattle.run_words.specs.Words.{flag, option}
 use Rattle.run_words.proofs.command.command.Goals as goal
 
 abbrev bare : App → App
@@ -19,4 +19,7 @@ returns c =
     let third_is : rule_of c.option-3.result ≡ option (codes "export") = c.option-3.ensures.rule in
     let with_second : app_of c.in_ok-arg-2.field-0 ≡ with_rule (with_rule (bare (new_app (codes "tt_archive"))) (option (codes "generate"))) (option (codes "count")) =
     c.in_ok-arg-2.ensures.shape c.option-2.ensures.local ∙ ap₂ with_rule with_first second_is in
-    IfOk-weaker c.arg-3.result _ _ (λ r h. h.shape c.option-3.ensures.local ∙ ap₂ with_rule with_second third_is) c.arg-3.ensures
+    let fourth_is : rule_of c.flag.result ≡ flag (codes "follow") = c.flag.ensures.rule in
+    let with_third : app_of c.in_ok-arg-3.field-0 ≡ with_rule (with_rule (with_rule (bare (new_app (codes "tt_archive"))) (option (codes "generate"))) (option (codes "count"))) (option (codes "export")) =
+    c.in_ok-arg-3.ensures.shape c.option-3.ensures.local ∙ ap₂ with_rule with_second third_is in
+    IfOk-weaker c.arg-4.result _ _ (λ r h. h.shape c.flag.ensures.local ∙ ap₂ with_rule with_third fourth_is) c.arg-4.ensures
