@@ -1,5 +1,5 @@
 -- What holds of words by their definition: any words ask for one thing or for nothing, and the plain forms for what they say.
-use Rattle.std.specs.Prelude.{◌≡◌, ◌⊎◌, ◌↔◌, List, [], Some, None, codes}
+use Rattle.std.specs.Prelude.{◌≡◌, ◌⊎◌, ◌↔◌, List, [], Some, None, false, codes}
 use Rattle.clap.specs.Words.{Text}
 use Rattle.run_words.specs.declared.task.Task.{Task}
 use Rattle.run_words.specs.declared.task.Task.TheVariants.{Script}
@@ -21,12 +21,12 @@ NoWordsAskForTheScript = AreWords [] Script
 -- Words that give both options of a sample in the plain forms ask for what the values ask for, whatever texts these are.
 abbrev pub PlainFormsAsk : Type 0
 PlainFormsAsk = (seed count : Text) (words : List Text) → GiveBoth seed count words → (task : Task)
-    → AreWords words task ↔ AskFor (Some seed) (Some count) None task
+    → AreWords words task ↔ AskFor (Some seed) (Some count) None false task
 
 -- Words that give the option of an export in a plain form ask for what the value asks for, whatever text this is.
 abbrev pub ExportFormAsks : Type 0
 ExportFormAsks = (from : Text) (words : List Text) → GiveOption (codes "export") from words → (task : Task)
-    → AreWords words task ↔ AskFor None None (Some from) task
+    → AreWords words task ↔ AskFor None None (Some from) false task
 
 -- Words that give one option of a sample alone in a plain form ask for nothing.
 abbrev pub OneOptionAsksForNothing : Type 0

@@ -1,5 +1,5 @@
 //! Words that are read.
-ghost use Rattle.std.specs.Prelude.{IfOk, IfSome, IfNone, IsErrOf, option_map};
+ghost use Rattle.std.specs.Prelude.{IfOk, IfSome, IfNone, IsErrOf, false, option_map};
 ghost use Rattle.run_words.specs.Numbers.{WritesNumber};
 ghost use Rattle.run_words.specs.Words.{AreNoWords, AreWords, AskFor, texts};
 
@@ -26,9 +26,9 @@ pub fn read_words(alloc: Global, words: &[String]) -> Result<Task, WordsError>
 /// What the values of the three options ask for, if anything. Costs their length.
 fn task_of(seed: Option<&str>, count: Option<&str>, from: Option<&str>) -> Option<Task>
     ensures some { IfSome result
-        (AskFor (option_map (λ s. s.now) seed.entry) (option_map (λ s. s.now) count.entry) (option_map (λ s. s.now) from.entry)) }
+        (AskFor (option_map (λ s. s.now) seed.entry) (option_map (λ s. s.now) count.entry) (option_map (λ s. s.now) from.entry) false) }
     ensures none { IfNone result ((task : Task)
-        → AskFor (option_map (λ s. s.now) seed.entry) (option_map (λ s. s.now) count.entry) (option_map (λ s. s.now) from.entry) task → ⊥) }
+        → AskFor (option_map (λ s. s.now) seed.entry) (option_map (λ s. s.now) count.entry) (option_map (λ s. s.now) from.entry) false task → ⊥) }
 {
     match (seed, count, from) {
         (None, None, None) => Some(Task::Script),

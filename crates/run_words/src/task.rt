@@ -13,6 +13,8 @@ pub enum Task {
     Generate(SampleNumbers),
     /// Show the entries from a number on as packets: `--export FROM`.
     Export(FirstEntry),
+    /// Take the packets of the standard input into the archive: `--follow`.
+    Follow,
 }
 
 /// The number of the first entry that is exported, from 1 on. It has at most nineteen digits.
