@@ -5,3 +5,4 @@ mod SampleLemmas
 mod ServeLemmas
 mod StandingLemmas
 mod ExportLemmas
+mod FollowLemmas

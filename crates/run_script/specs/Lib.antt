@@ -5,3 +5,4 @@ pub mod Statuses
 pub mod Outcomes
 pub mod Sampling
 pub mod Exporting
+pub mod Following

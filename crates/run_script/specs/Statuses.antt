@@ -9,6 +9,8 @@ use Rattle.run_follow.specs.declared.error.ExportError.{ExportError}
 use Rattle.run_follow.specs.declared.error.ExportError.TheVariants as exports
 use Rattle.run_sample.specs.declared.error.FillError.{FillError}
 use Rattle.run_sample.specs.declared.error.FillError.TheVariants as fills
+use Rattle.run_taking.specs.declared.ended.Ended.{Ended}
+use Rattle.run_taking.specs.declared.ended.Ended.TheVariants as ends
 use Rattle.pages_sublists.specs.declared.why.Why.{Why}
 use Rattle.pages_sublists.specs.declared.why.Why.TheVariants.{Form, Digest, Astray, Clash, Bare}
 use Rattle.run_script.specs.declared.stop.Halt.{Halt}
@@ -16,7 +18,7 @@ use Rattle.run_script.specs.declared.stop.Halt.TheVariants as halts
 use Rattle.run_script.specs.declared.stop.Stop.{Stop}
 use Rattle.run_script.specs.declared.stop.Stop.TheVariants as stops
 use Rattle.run_script.specs.declared.status.Status.{Status}
-use Rattle.run_script.specs.declared.status.Status.TheVariants.{Done, Usage, NotArchive, Disk, Source, Sink, Script, Damaged, Budget, NotEmpty, Memory}
+use Rattle.run_script.specs.declared.status.Status.TheVariants.{Done, Usage, NotArchive, Disk, Source, Sink, Script, Damaged, Budget, NotEmpty, Memory, Gap, Conflict, Packet}
 
 -- the exit status
 abbrev pub code_of : Status → ℕ
@@ -31,6 +33,9 @@ code_of (Damaged damage) = 8
 code_of Budget = 9
 code_of (NotEmpty length) = 10
 code_of Memory = 12
+code_of (Gap have got) = 13
+code_of (Conflict number place kept got) = 14
+code_of (Packet at) = 15
 
 -- what is told of why a sublist is damaged
 abbrev pub why_text : Why → List ℕ
@@ -43,7 +48,7 @@ why_text Bare = codes "bare"
 -- the line, without its end
 abbrev pub status_text : Status → List ℕ
 status_text Done = codes "tt_archive: done"
-status_text Usage = codes "tt_archive: usage: tt_archive [--generate SEED --count COUNT | --export FROM]"
+status_text Usage = codes "tt_archive: usage: tt_archive [--generate SEED --count COUNT | --export FROM | --follow]"
 status_text (NotArchive at) = codes "tt_archive: not an archive at byte " ++ decimal at ++ codes " of the journal"
 status_text Disk = codes "tt_archive: disk fault"
 status_text Source = codes "tt_archive: source fault"
@@ -53,6 +58,9 @@ status_text (Damaged damage) = codes "tt_archive: damaged sublist at page " ++ d
 status_text Budget = codes "tt_archive: no end after 1099511627776 bytes"
 status_text (NotEmpty length) = codes "tt_archive: the archive has " ++ decimal length ++ codes " entries"
 status_text Memory = codes "tt_archive: no memory"
+status_text (Gap have got) = codes "tt_archive: have " ++ decimal have ++ codes " entries, got number " ++ decimal got
+status_text (Conflict number place kept got) = codes "tt_archive: entry " ++ decimal number ++ codes " differs at byte " ++ decimal place
+status_text (Packet at) = codes "tt_archive: bad packet at byte " ++ decimal at
 
 -- how a run ends where there is no next item
 abbrev pub status_of_script : ScriptError → Status
@@ -86,6 +94,19 @@ status_of_export exports.Disk = Disk
 status_of_export exports.Sink = Sink
 status_of_export (exports.NotArchive at) = NotArchive at
 status_of_export exports.Memory = Memory
+
+-- how a run ends in which packets were taken
+abbrev pub status_of_ended : Ended → Status
+status_of_ended ends.Done = Done
+status_of_ended (ends.NotArchive at) = NotArchive at
+status_of_ended ends.Disk = Disk
+status_of_ended ends.Source = Source
+status_of_ended ends.Sink = Sink
+status_of_ended ends.Budget = Budget
+status_of_ended ends.Memory = Memory
+status_of_ended (ends.Gap have got) = Gap have got
+status_of_ended (ends.Conflict number place kept got) = Conflict number place kept got
+status_of_ended (ends.Packet at) = Packet at
 
 -- how a run ends where there is no archive
 abbrev pub status_of_load : LoadError → Status

@@ -11,6 +11,7 @@ mod answer;
 mod carry_out;
 mod desk;
 mod exporting;
+mod following;
 mod program;
 mod sampling;
 mod script;

@@ -16,10 +16,12 @@ ghost use Rattle.run_words.specs.declared.task.Task.TheVariants as tasks;
 ghost use Rattle.run_words.specs.declared.task.FirstEntry.{FirstEntry as PlainFirst};
 ghost use Rattle.run_words.specs.declared.task.SampleNumbers.{SampleNumbers as PlainNumbers};
 ghost use Rattle.run_script.specs.Exporting.{EndsExport, Exported, LeavesAlone};
+ghost use Rattle.run_script.specs.Following.{EndsFollow, IsCompletelyFollowed, Replicated};
 ghost use Rattle.run_script.specs.Headline.{Ends, EndsSpoiled, IsComplete, IsLoadedFrom, LoadsAs, ReadingRun, StandingRun, store_of};
 ghost use Rattle.run_script.specs.Sampling.{EndsSample, Sampled};
 
 use crate::exporting::run_export;
+use crate::following::run_follow;
 use crate::sampling::run_sample;
 use crate::script::run_script;
 use crate::status::Status;
@@ -59,6 +61,7 @@ fn task_of(alloc: Global, words: &[String]) -> Result<Task, Status>
 /// the items of its source one after another. It shows each reply whole before it pulls more input.
 /// Where they ask for a sample, `run` carries out the sample's commands on an archive without entries,
 /// and shows two lines about them. Where they ask for an export, it shows the archive's entries as packets.
+/// Where they ask to follow, it takes the packets of its source into the archive, and shows a line for each.
 /// The first event that ends the run decides the status.
 /// `docs/claims.md` says in words what each clause promises, and under which premises.
 ///
@@ -160,6 +163,18 @@ pub fn run<M: Machine>(alloc: Global, words: &[String], machine: &mut M) -> Stat
         (Rose (M.disk machine.old).faults (M.disk machine.new).faults → ⊥) →
         (Rose (M.sink machine.old).faults (M.sink machine.new).faults → ⊥) →
         (result ≡ Status.Done) ⊎ (result ≡ Status.Memory) }
+    // With the word of a follower, unless the bytes were refused, the disk failed or memory ran out, a load took them for a history's.
+    ensures follow_ends { AreWords (texts words.now) tasks.Follow → EndsFollow result }
+    ensures follow_loaded { M.disk_tells → AreWords (texts words.now) tasks.Follow → IsLoadedFrom (M.disk machine.old).holds result }
+    // From that history: one run of the abstract follower over the packets of the bytes pulled, the lines that are shown of it and when, what each
+    // image left at any moment has, and at which packet and why it ended.
+    ensures followed { M.source_tells → M.sink_tells → M.disk_tells → AreWords (texts words.now) tasks.Follow → (h : History)
+        → LoadsAs h (M.disk machine.old).holds →
+        (pulls : List Pull) × M.asked machine.old pulls machine.new
+        × Replicated h result (state_by M.source M.sink M.disk machine.old) (state_by M.source M.sink M.disk machine.new) pulls }
+    // Where nothing is wrong, the bytes of the input decide how it ends, unless memory runs out.
+    ensures follow_complete { M.source_tells → M.sink_tells → M.disk_tells → AreWords (texts words.now) tasks.Follow →
+        IsCompletelyFollowed result (state_by M.source M.sink M.disk machine.old) (state_by M.source M.sink M.disk machine.new) }
 {
     let task = match task_of(alloc, words) {
         Ok(task) => task,
@@ -169,5 +184,6 @@ pub fn run<M: Machine>(alloc: Global, words: &[String], machine: &mut M) -> Stat
         Task::Script => run_script(alloc, machine),
         Task::Generate(numbers) => run_sample(alloc, machine, numbers),
         Task::Export(first) => run_export(alloc, machine, first),
+        Task::Follow => run_follow(alloc, machine),
     }
 }

@@ -1,12 +1,13 @@
 //! How a run ends.
 ghost use Rattle.std.specs.Prelude.{◌≡◌};
-ghost use Rattle.run_script.specs.Statuses.{code_of, status_of_export, status_of_fill, status_of_load, status_of_script, status_of_stop, why_text};
+ghost use Rattle.run_script.specs.Statuses.{code_of, status_of_ended, status_of_export, status_of_fill, status_of_load, status_of_script, status_of_stop, why_text};
 
 use crate::stop::Stop;
 use archive_hand::LoadError;
 use pages_sublists::{Damage, Why};
 use run_follow::ExportError;
 use run_sample::FillError;
+use run_taking::Ended;
 use script_read::ScriptError;
 use std::fmt;
 
@@ -44,6 +45,29 @@ pub enum Status {
     },
     /// There was no memory.
     Memory,
+    /// Entries are missing in front of a packet's.
+    Gap {
+        /// How many entries the archive has.
+        have: u64,
+        /// The number of the packet's.
+        got: u64,
+    },
+    /// A packet is one of an entry that is there, and differs from it.
+    Conflict {
+        /// The number of the entry.
+        number: u64,
+        /// The first place at which they differ, in bytes.
+        place: u64,
+        /// The byte of the entry that is there; None past its end.
+        kept: Option<u8>,
+        /// The byte of the packet; None past its end.
+        got: Option<u8>,
+    },
+    /// No packet begins at that place, or one whose entry can't be taken. Each packet before it is carried out and its line shown.
+    Packet {
+        /// The place in the input, in bytes.
+        at: u64,
+    },
 }
 
 impl Status {
@@ -63,6 +87,9 @@ impl Status {
             Status::Budget => 9,
             Status::NotEmpty { .. } => 10,
             Status::Memory => 12,
+            Status::Gap { .. } => 13,
+            Status::Conflict { .. } => 14,
+            Status::Packet { .. } => 15,
         }
     }
 }
@@ -117,6 +144,35 @@ impl From<ExportError> for Status {
     }
 }
 
+impl From<Ended> for Status {
+    ghost from_gives = { λ end status. status ≡ status_of_ended end };
+
+    fn from(end: Ended) -> Status {
+        match end {
+            Ended::Done => Status::Done,
+            Ended::NotArchive { at } => Status::NotArchive { at },
+            Ended::Disk => Status::Disk,
+            Ended::Source => Status::Source,
+            Ended::Sink => Status::Sink,
+            Ended::Budget => Status::Budget,
+            Ended::Memory => Status::Memory,
+            Ended::Gap { have, got } => Status::Gap { have, got },
+            Ended::Conflict {
+                number,
+                place,
+                kept,
+                got,
+            } => Status::Conflict {
+                number,
+                place,
+                kept,
+                got,
+            },
+            Ended::Packet { at } => Status::Packet { at },
+        }
+    }
+}
+
 impl From<Stop> for Status {
     ghost from_gives = { λ stop status. status ≡ status_of_stop stop };
 
@@ -141,7 +197,7 @@ impl fmt::Display for Status {
             Status::Done => write!(f, "tt_archive: done"),
             Status::Usage => write!(
                 f,
-                "tt_archive: usage: tt_archive [--generate SEED --count COUNT | --export FROM]"
+                "tt_archive: usage: tt_archive [--generate SEED --count COUNT | --export FROM | --follow]"
             ),
             Status::NotArchive { at } => {
                 write!(f, "tt_archive: not an archive at byte {at} of the journal")
@@ -159,6 +215,13 @@ impl fmt::Display for Status {
                 write!(f, "tt_archive: the archive has {length} entries")
             }
             Status::Memory => write!(f, "tt_archive: no memory"),
+            Status::Gap { have, got } => {
+                write!(f, "tt_archive: have {have} entries, got number {got}")
+            }
+            Status::Conflict { number, place, .. } => {
+                write!(f, "tt_archive: entry {number} differs at byte {place}")
+            }
+            Status::Packet { at } => write!(f, "tt_archive: bad packet at byte {at}"),
         }
     }
 }
