@@ -3,7 +3,6 @@ use Rattle.std.proofs.Common.{◌≡◌, ℕ, ◌+◌, false, List, [], ◌++◌
 use Rattle.std.proofs.lemmas.Bool.{false≢true}
 use Rattle.std.proofs.lemmas.List.{append-nil}
 use Rattle.std.proofs.lemmas.List.Elements.{All-nil}
-use Rattle.machine_model.specs.Areas.{Bytes}
 use Rattle.machine_model.specs.Calls.{OnlyReads}
 use Rattle.machine_model.specs.Images.{MayLeave}
 use Rattle.machine_model.specs.States.{DiskState, MachineState}
@@ -14,33 +13,16 @@ use Rattle.model_archive.specs.Holding.{HoldsPlans}
 use Rattle.model_archive.specs.Standing.{Carried}
 use Rattle.model_archive.specs.Stands.{EachStands, bodies_of}
 use Rattle.archive_hand.specs.Changing.{KeepsBy}
-use Rattle.archive_hand.specs.States.{ArchiveState, AreInStepBy, CacheStands}
+use Rattle.archive_hand.specs.States.{ArchiveState, AreInStepBy}
 use Rattle.archive_hand.specs.Stored.{StandsBy, Store}
-use Rattle.archive_hand.proofs.ByReadsLemmas.{keeps_reads, reads_by}
+use Rattle.archive_hand.proofs.ByReadsLemmas.{keeps_reads}
 use Rattle.model_follow.specs.Following.{note_text}
 use Rattle.run_taking.specs.Following.{ComesAfterLines, EndsAt, EndsByBytes, MayEnd, TellsAll}
 use Rattle.run_taking.specs.Serving.{IsFollowing, Serves, Serving, StoreFollows}
 use Rattle.run_taking.specs.declared.ended.Ended.{Ended}
 use Rattle.run_taking.specs.declared.ended.Ended.TheVariants as ends
+use Rattle.run_taking.proofs.PacketLemmas.{in_step_read}
 use Rattle.run_taking.proofs.StandLemmas.{IsHeld}
-
--- reads of the journal leave an archive in step
-pub in_step_read : (old new : DiskState) (a : ArchiveState) (s : Store) → OnlyReads old new → new.bytes_read.pages ≡ old.bytes_read.pages → AreInStepBy old a s → AreInStepBy new a s
-in_step_read old new a s reads unread in_step =
-    let holds : new.holds ≡ old.holds = ap (λ (d : DiskState). d.holds) reads in
-    let t = reads_by s old new a a in_step reads refl (subst (λ (b : Bytes). CacheStands (record new { holds = b }) a) (sym holds) in_step.cached) in
-    record {
-      stands = in_step.stands;
-      asked_are = in_step.asked_are;
-      journal = t.journal;
-      pages_are = t.pages_are;
-      kept_are = in_step.kept_are;
-      read_is = unread ∙ in_step.read_is;
-      job_is = in_step.job_is;
-      live = in_step.live;
-      same = t.same;
-      cached = t.cached;
-    }
 
 -- nothing was carried out
 pub none_carried : (s : Store) (before : List ℕ) (old new : DiskState) → old.now.beside ≡ before → KeepsBy s old new → Carried note_text StandsBy s [] before old new
