@@ -199,11 +199,15 @@ took_by s at p n old new archive archive_now was numbered allowed following coun
   refl,
 )
 
-pub untaken_by : (s : Store) (at : ℕ) (p : Framed) (error : TakeEntryError) (old new : DiskState) (archive archive_now : ArchiveState) (was numbered : NumberedState) (page : List ℕ) → IsFollowing old archive was s → p.number ≡ length s.history + 1
-    → TakesBody s.history p.body (Err error) archive_now → TakesBy s p.body (Err error) old new archive_now → (error ≡ takes.NotNext → new ≡ old) → CameOf s at p (Err (end_of_take at error)) old new archive_now numbered page
-untaken_by s at p takes.NotNext old new archive archive_now was numbered page following counted body by same =
-    (subst (λ (d : DiskState). KeepsBy s old d) (sym (same refl)) (keeps_nowhere old archive s following.in_step), (refl, (counted, (body.refused refl).0)))
-untaken_by s at p takes.Failed old new archive archive_now was numbered page following counted body (inl keeps) same = inl keeps
-untaken_by s at p takes.Failed old new archive archive_now was numbered page following counted body (inr (next, took)) same =
-    inr (Took p.number, next, followed s next p old new took (body.allowed (inr refl)) counted, took.leads)
-untaken_by s at p takes.Memory old new archive archive_now was numbered page following counted body keeps same = (keeps, tt)
+pub untaken_by : (s : Store) (at : ℕ) (p : Framed) (error why : TakeEntryError) (bytes : List ℕ) (old new : DiskState) (archive archive_now : ArchiveState) (was numbered : NumberedState) (page : List ℕ) → IsFollowing old archive was s → p.number ≡ length s.history + 1 → why ≡ error → bytes ≡ p.body
+    → TakesBody s.history bytes (Err why) archive_now → TakesBy s bytes (Err why) old new archive_now → (error ≡ takes.NotNext → new ≡ old) → CameOf s at p (Err (end_of_take at error)) old new archive_now numbered page
+untaken_by s at p error why bytes old new archive archive_now was numbered page following counted is same body by still =
+    let P : TakeEntryError → List ℕ → Type 0 = λ e b. TakesBody s.history b (Err e) archive_now × TakesBy s b (Err e) old new archive_now in
+    let both : P error p.body = subst (λ (e : TakeEntryError). P e p.body) is (subst (λ (b : List ℕ). P why b) same (body, by)) in
+    go error both.0 both.1 still
+  where
+    go : (e : TakeEntryError) → TakesBody s.history p.body (Err e) archive_now → TakesBy s p.body (Err e) old new archive_now → (e ≡ takes.NotNext → new ≡ old) → CameOf s at p (Err (end_of_take at e)) old new archive_now numbered page
+    go takes.NotNext body by still = (subst (λ (d : DiskState). KeepsBy s old d) (sym (still refl)) (keeps_nowhere old archive s following.in_step), (refl, (counted, (body.refused refl).0)))
+    go takes.Failed body (inl keeps) still = inl keeps
+    go takes.Failed body (inr (next, took)) still = inr (Took p.number, next, followed s next p old new took (body.allowed (inr refl)) counted, took.leads)
+    go takes.Memory body by still = (by, tt)
