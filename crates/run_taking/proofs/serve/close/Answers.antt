@@ -1,4 +1,5 @@
-use Rattle.std.proofs.Common.{ap, refl, ◌∙◌}
+use Rattle.std.proofs.Common.{◌≡◌, length, ap, refl, ◌∙◌}
+use Rattle.model_archive.specs.Standing.{last_state}
 use Rattle.model_follow.specs.Following.{length_text}
 use Rattle.run_taking.specs.declared.ended.Ended.TheVariants.{Done, Sink}
 use Rattle.run_taking.proofs.PacketLemmas.{as_many}
@@ -11,7 +12,7 @@ returns-in-Ok-clause-closed g c = λ sink_tells disk_tells s began archive held 
     let last = c.show.new.sink in
     let (serving, at_end) = gone.closing refl in
     let alone = m.sink_alone c.args.machine.now last c.show.ensures.only in
-    let line = c.as_bytes.ensures ∙ c.numbered.ensures ∙ ap length_text (c.count.ensures ∙ as_many _ _ _ serving.following.bodies) in
+    let line : c.as_bytes.result.now ≡ length_text (length (last_state s serving.outcomes).history) = c.as_bytes.ensures ∙ c.numbered.ensures ∙ ap length_text (c.count.ensures ∙ as_many _ _ _ serving.following.bodies) in
     closed s Done began _ (g.M.Source.source last) (g.M.Sink.sink last) (g.M.Disk.disk last) archive held c.args.bodies.now pulls c.as_bytes.result.now tt serving at_end line alone.0 (m.shows c.args.machine.now last sink_tells disk_tells c.show.ensures.only) alone.1 (c.show.ensures.front sink_tells)
     (λ is. c.in-Ok.ensures.whole sink_tells)
 
@@ -21,6 +22,6 @@ returns-in-Err-clause-closed g c = λ sink_tells disk_tells s began archive held
     let last = c.show.new.sink in
     let (serving, at_end) = gone.closing refl in
     let alone = m.sink_alone c.args.machine.now last c.show.ensures.only in
-    let line = c.as_bytes.ensures ∙ c.numbered.ensures ∙ ap length_text (c.count.ensures ∙ as_many _ _ _ serving.following.bodies) in
+    let line : c.as_bytes.result.now ≡ length_text (length (last_state s serving.outcomes).history) = c.as_bytes.ensures ∙ c.numbered.ensures ∙ ap length_text (c.count.ensures ∙ as_many _ _ _ serving.following.bodies) in
     closed s Sink began _ (g.M.Source.source last) (g.M.Sink.sink last) (g.M.Disk.disk last) archive held c.args.bodies.now pulls c.as_bytes.result.now tt serving at_end line alone.0 (m.shows c.args.machine.now last sink_tells disk_tells c.show.ensures.only) alone.1 (c.show.ensures.front sink_tells)
     (λ is. cc)
