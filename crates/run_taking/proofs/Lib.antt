@@ -4,3 +4,4 @@ mod EndLemmas
 mod ServeLemmas
 mod StandLemmas
 mod StartLemmas
+mod LawLemmas

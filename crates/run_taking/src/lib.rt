@@ -9,9 +9,11 @@
 
 mod ended;
 mod following;
+mod laws;
 mod packet;
 mod reading;
 mod serve;
 
 pub use ended::Ended;
 pub use following::follow;
+pub use laws::runs_keep_to_the_leader;
