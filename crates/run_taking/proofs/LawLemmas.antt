@@ -1,27 +1,36 @@
--- A run over a leader's packets.
-use Rattle.std.proofs.Common.{◌≡◌, ℕ, ◌++◌, true, List, [], length, Option, inl, inr, subst}
-use Rattle.journal_packets.specs.Packets.{first}
+-- What holds of a run whose bytes are those of a leader.
+use Rattle.std.proofs.Common.{◌≡◌, ℕ, ◌≤◌, Bool, true, List, [], ◌++◌, length, Option, inl, inr, ap, sym, subst, ◌∙◌}
+use Rattle.machine_model.specs.Pulls.{Pull}
+use Rattle.machine_model.specs.States.{MachineState}
+use Rattle.journal_packets.specs.Packets.{Framed, first}
 use Rattle.journal_packets.specs.Streams.{IsStreamOf, stream}
 use Rattle.journal_packets.specs.declared.first.First.TheVariants.{Bad}
+use Rattle.model_archive.specs.Histories.{History}
 use Rattle.model_archive.specs.Standing.{last_state}
 use Rattle.model_archive.specs.Stands.{bodies_of}
+use Rattle.model_follow.specs.Following.{BeginWith, CannotBeTaken, DiffersAt}
 use Rattle.model_follow.specs.Laws.{FollowersOfALeader}
-use Rattle.run_taking.specs.Following.{EndsAt}
+use Rattle.run_taking.specs.Following.{EndsAt, Followed}
 use Rattle.run_taking.specs.Laws.{RunsKeepToTheLeader}
 use Rattle.run_taking.specs.declared.ended.Ended.{Ended}
 use Rattle.run_taking.specs.declared.ended.Ended.TheVariants.{Conflict, Packet}
 
-pub runs_keep : FollowersOfALeader → RunsKeepToTheLeader
-runs_keep law leader history end input input_now output output_now pulls can goes ran to_come is =
-    let whole : IsStreamOf (bodies_of leader) ((stream (ran.carried ++ ran.behind) ++ ran.rest) ++ to_come) = subst (λ (bytes : List ℕ). IsStreamOf (bodies_of leader) (bytes ++ to_come)) ran.split is in
-    let (keeps, agrees, takes, bad) = law leader history ran.carried ran.behind ran.rest to_come ran.outcomes can goes ran.proper ran.run whole in
-    let E : Ended → Type 0 = λ e. EndsAt e (last_state history ran.outcomes) (length (stream ran.carried)) (length ran.pulled) ran.ended ran.behind ran.rest in (
-      keeps,
-      λ number place kept got same.
-          let (p, others, begins, ends) = subst E same ran.ends in
-          agrees place kept got (p, others, begins, ends.1),
-      λ at same. elim (subst E same ran.ends) as (λ _. (ran.behind ≡ []) × (ran.ended ≡ true) × (first true ran.rest ≡ Bad)) [
-        | inl broken ↦ (let told : ran.ended ≡ true = bad ran.ended broken.2 in (broken.1, told, subst (λ e. first e ran.rest ≡ Bad) told broken.2))
-        | inr (p, others, begins, ends) ↦ absurd (takes (p, others, begins, ends.1))
+begin_so : (P Q : Framed → Type 0) (packets : List Framed) → ((p : Framed) → P p → Q p) → BeginWith packets P → BeginWith packets Q
+begin_so P Q packets so (p, others, is, holds) = (p, others, is, so p holds)
+
+pub keeps_to_the_leader : FollowersOfALeader → RunsKeepToTheLeader
+keeps_to_the_leader law leader history end old new pulls can goes f to_come streams =
+    let ran = f.ran in
+    let h : History = last_state history ran.outcomes in
+    let read : IsStreamOf (bodies_of leader) ((stream (ran.carried ++ ran.behind) ++ ran.rest) ++ to_come) =
+    subst (λ (l : List ℕ). IsStreamOf (bodies_of leader) (l ++ to_come)) ran.split streams in
+    let so = law leader history ran.carried ran.behind ran.rest to_come ran.outcomes can goes ran.proper ran.run read in
+    let E : Ended → Type 0 = λ e. EndsAt e h (length (stream ran.carried)) (length ran.pulled) ran.ended ran.behind ran.rest in (
+      so.0,
+      λ number place kept got is.
+          so.1 place kept got (begin_so (λ p. (number ≡ p.number) × DiffersAt h place kept got p) (DiffersAt h place kept got) ran.behind (λ p both. both.1) (subst E is ran.ends)),
+      λ at is. elim (subst E is ran.ends) [
+        | inl (place, none, bad) ↦ (none, so.3 ran.ended bad, subst (λ (b : Bool). first b ran.rest ≡ Bad) (so.3 ran.ended bad) bad)
+        | inr next ↦ absurd (so.2 (begin_so (λ p. (at ≡ length (stream ran.carried)) × CannotBeTaken h p) (CannotBeTaken h) ran.behind (λ p both. both.1) next))
       ],
     )

@@ -1,5 +1,5 @@
 -- A run over packets: what was read so far, and how it ends.
-use Rattle.std.proofs.Common.{◌≡◌, ◌⊎◌, ℕ, ◌+◌, ◌<◌, ◌≤◌, ◌^◌, Bool, true, false, List, [], ◌∷◌, ◌++◌, length, map, All, Option, Some, None, Result, Ok, Err, IfErr, MatchResult, inl, inr, refl, ap, sym, subst, ◌∙◌, arith, append_assoc}
+use Rattle.std.proofs.Common.{◌≡◌, ◌⊎◌, ℕ, suc, ◌+◌, ◌<◌, ◌≤◌, ◌^◌, Bool, true, false, List, [], ◌∷◌, ◌++◌, length, map, All, Option, Some, None, Result, Ok, Err, IfErr, MatchResult, inl, inr, refl, ap, sym, subst, ◌∙◌, arith, append_assoc}
 use Rattle.std.proofs.lemmas.List.{append-nil, append_cancel_left, length-append}
 use Rattle.std.proofs.lemmas.List.Elements.{All-append, All-cons, All-map, All-nil, All-weaker}
 use Rattle.machine_model.specs.Images.{MayLeave}
@@ -127,7 +127,7 @@ all_lines_on input output packets more outcomes further pulls all =
 
 run_long : {S E R : Type 0} (step : S → E → R → S → Type 0) (state : S) (events : List E) (outcomes : List (Outcome R S)) → IsRun step state events outcomes → length outcomes ≡ length events
 run_long step state [] [] run = refl
-run_long step state (e ∷ events) (o ∷ outcomes) run = ap (λ (n : ℕ). n + 1) (run_long step o.next events outcomes run.1)
+run_long step state (e ∷ events) (o ∷ outcomes) run = ap suc (run_long step o.next events outcomes run.1)
 run_long step state [] (o ∷ outcomes) run = absurd run
 run_long step state (e ∷ events) [] run = absurd run
 
@@ -169,6 +169,7 @@ pub serving_next : (store : Store) (old now : MachineState) (source : SourceStat
     → (serving : Serving store old now archive held numbered before) → All (IsAwaited held.bytes now.source.left) lefts → Gives held held_now (Ok packet) now.source source
     → IsCarriedOut (last_state store serving.outcomes) packet.at (framed packet) (Ok tt) now.sink.shown sink.shown now.disk disk archive_now numbered_now
     → Serving store old (record { source = source; sink = sink; disk = disk }) archive_now held_now numbered_now (before ++ pulls_beside now.sink.shown lefts)
+unfolding pulling_next
 serving_next store old now source sink disk archive archive_now held held_now numbered numbered_now before lefts packet serving awaited gives carried =
     let (is, whole, following) = carried.came in
     let outcomes = serving.outcomes in
@@ -226,6 +227,7 @@ none_behind packets all = subst (All IsFramed) (sym (append-nil packets)) all
 pub ended_by : (store : Store) (old now : MachineState) (source : SourceState) (archive : ArchiveState) (held held_now : PacketsState) (numbered : NumberedState) (before : List Pull) (lefts : List (List ℕ)) (end : Ended)
     → (serving : Serving store old now archive held numbered before) → All (IsAwaited held.bytes now.source.left) lefts → Gives held held_now (Err end) now.source source
     → HasGoneOver store end old (with_source now source) archive held_now numbered (before ++ pulls_beside now.sink.shown lefts)
+unfolding pulling_held
 ended_by store old now source archive held held_now numbered before lefts end serving awaited gives =
     let pulls = before ++ pulls_beside now.sink.shown lefts in
     let p = pulling_held old.source now.source source held held_now end serving.pulling gives in
@@ -285,6 +287,7 @@ pub stopped : (store : Store) (old now : MachineState) (source : SourceState) (s
     → (end ≡ ends.Done → ⊥) → now.disk.now.beside ≡ now.sink.shown → (serving : Serving store old now archive held numbered before) → All (IsAwaited held.bytes now.source.left) lefts → Gives held held_now (Ok packet) now.source source
     → IsCarriedOut (last_state store serving.outcomes) packet.at (framed packet) (Err end) now.sink.shown sink.shown now.disk disk archive_now numbered_now
     → Serves store end old (record { source = source; sink = sink; disk = disk }) (before ++ pulls_beside now.sink.shown lefts)
+unfolding pulling_next
 stopped store old now source sink disk archive archive_now held held_now numbered numbered_now before lefts packet end going beside serving awaited gives out = go end going out.came
   where
     outcomes : List (Outcome Note Store)
@@ -316,7 +319,7 @@ stopped store old now source sink disk archive archive_now held held_now numbere
 
     -- nothing came of it
     undone : (e : Ended) → (e ≡ ends.Done → ⊥) → EndsAt e s.history (length (stream packets)) (length p.pulled) held_now.ended (framed packet ∷ []) held_now.bytes → KeepsBy s now.disk disk → sink.shown ≡ now.sink.shown → Serves store e old new pulls
-    undone e going ends keeps still = record {
+    undone e going here keeps still = record {
       ran = record {
         pulled = p.pulled;
         pulled_are = p.pulled_are;
@@ -329,7 +332,7 @@ stopped store old now source sink disk archive archive_now held held_now numbere
         split = p.reads.split;
         outcomes = outcomes;
         run = serving.run;
-        ends = ends;
+        ends = here;
         shown = earlier;
         shown_is = still ∙ serving.shown;
         front = inl ([], sym (append-nil earlier));
@@ -345,7 +348,7 @@ stopped store old now source sink disk archive archive_now held held_now numbere
 
     -- it was carried out, but its line isn't shown whole
     part : (e : Ended) → (TellsAll e → ⊥) → (e ≡ ends.Done → ⊥) → EndsAt e (last_state store (outcomes ++ [])).history (length (stream packets)) (length p.pulled) held_now.ended [] held_now.bytes → IsShown s (framed packet) now.sink.shown sink.shown now.disk disk → Serves store e old new pulls
-    part e quiet going ends is =
+    part e quiet going here is =
         let o = is.outcome in
         let all = outcomes ++ o ∷ [] in
         let told = earlier ++ is.shown in
@@ -362,7 +365,7 @@ stopped store old now source sink disk archive archive_now held held_now numbere
             split = subst (λ (l : List Framed). p.pulled ≡ stream l ++ held_now.bytes) (sym (append-nil p.packets)) p.reads.split;
             outcomes = all;
             run = runs_join StoreFollows store packets (framed packet ∷ []) outcomes (o ∷ []) serving.run (is.step, tt);
-            ends = any e quiet ends all;
+            ends = any e quiet here all;
             shown = told;
             shown_is = is.shown_is ∙ ap (λ (l : List ℕ). l ++ is.shown) serving.shown ∙ append_assoc old.sink.shown earlier is.shown;
             front = inl (is.front.0, shown_next outcomes o ∙ ap (λ (l : List ℕ). earlier ++ l) is.front.1 ∙ sym (append_assoc earlier is.shown is.front.0));
@@ -392,7 +395,7 @@ stopped store old now source sink disk archive archive_now held held_now numbere
     go (ends.Gap have got) going ((keeps, still), is) = undone (ends.Gap have got) going (framed packet, [], refl, is) keeps still
     go (ends.Conflict number at kept got) going ((keeps, still), is) = undone (ends.Conflict number at kept got) going (framed packet, [], refl, is) keeps still
     go (ends.Packet at) going ((keeps, still), is) = undone (ends.Packet at) going (inr (framed packet, [], refl, (is.0 ∙ place, is.1))) keeps still
-    go other going ((keeps, still), is) = absurd is
+    go other going x = absurd x.1
 
 -- a packet was carried out, or ended the run
 pub went_on : (store : Store) (old now : MachineState) (source : SourceState) (sink : SinkState) (disk : DiskState) (archive archive_now : ArchiveState) (held held_now : PacketsState) (numbered numbered_now : NumberedState) (before : List Pull) (lefts : List (List ℕ)) (packet : Packet) (result : Result (Unit {0}) Ended)

@@ -83,7 +83,7 @@ cut_short s at p end before old new archive_now numbered page comes answered bes
     go other comes came = absurd comes
 
 -- the line was shown, or a front of it
-shown_so : (s : Store) (p : Framed) (before after : List ℕ) (old mid new : DiskState) (archive_now : ArchiveState) (numbered : NumberedState) (note : Note) (next : Store) → StoreFollows s p note next → LeadsBy s next old mid → IsFollowing mid archive_now numbered next
+abbrev shown_so : (s : Store) (p : Framed) (before after : List ℕ) (old mid new : DiskState) (archive_now : ArchiveState) (numbered : NumberedState) (note : Note) (next : Store) → StoreFollows s p note next → LeadsBy s next old mid → IsFollowing mid archive_now numbered next
     → old.now.beside ≡ before → OnlyShows mid new before after → IsPrefix after (before ++ note_text note) → IsShown s p before after old new
 shown_so s p before after old mid new archive_now numbered note next follows leads following beside shows front = record {
   outcome = record { reply = note; next = next };

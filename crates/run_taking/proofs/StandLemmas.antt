@@ -168,7 +168,7 @@ quiet P h (o ∷ outcomes) = (λ none. absurd (some o.reply none), quiet P o.nex
 all_acknowledged : {S R : Type 0} (text : R → List ℕ) (outcomes : List (Outcome R S)) (shown part : List ℕ) → shown ≡ shown_by text outcomes ++ part → IsAcknowledged text outcomes shown (length outcomes)
 all_acknowledged text outcomes shown part is = record {
   within = omega arith;
-  whole = (part, is ∙ ap (λ os. shown_by text os ++ part) (sym (take_all outcomes)));
+  whole = (part, is ∙ ap (λ os. shown_by text os ++ part) (sym (take_all (length outcomes) outcomes (omega arith))));
   greatest = λ m within front. within;
 }
 
@@ -202,6 +202,7 @@ all_reopen P s outcomes before old mid new along at carried closing = elim closi
     })
 
 pub followed_by : (s : Store) (end : Ended) (old new : MachineState) (pulls : List Pull) → (EachStands old.disk s.history → IsHeld s) → Serves s end old new pulls → Followed s.history end old new pulls
+unfolding ran_bare
 followed_by s end old new pulls held serves =
     let ran = serves.ran in
     let outcomes = ran.outcomes in

@@ -97,6 +97,12 @@ CameOf store at p (Err ends.Disk) old new archive_now numbered page = KeepsBy st
     ⊎ ((note : Note) × (next : Store) × StoreFollows store p note next × LeadsBy store next old new)
 CameOf store at p (Err end) old new archive_now numbered page = KeepsBy store old new × EndsFor store.history at p end
 
+-- the ends that come where the entry of a packet can't be read
+abbrev pub ComesOfReading : Ended → Type 0
+ComesOfReading ends.Disk = Unit {0}
+ComesOfReading ends.Memory = Unit {0}
+ComesOfReading other = ⊥
+
 -- the ends that come of a packet before its line is shown
 abbrev pub ComesOfPacket : Ended → Type 0
 ComesOfPacket ends.Disk = Unit {0}

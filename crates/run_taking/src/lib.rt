@@ -16,4 +16,4 @@ mod serve;
 
 pub use ended::Ended;
 pub use following::follow;
-pub use laws::runs_keep_to_their_leader;
+pub use laws::runs_keep_to_the_leader;

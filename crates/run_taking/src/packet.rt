@@ -1,5 +1,5 @@
 //! What comes of a packet.
-ghost use Rattle.std.specs.Prelude.{◌≡◌, ◌+◌, ◌≤◌, length, Ok, IfErr, IfOk, OnOk, IsErr, IsErrOf};
+ghost use Rattle.std.specs.Prelude.{◌≡◌, ◌+◌, ◌≤◌, length, IfErr, IfOk, OnOk, IsErrOf};
 ghost use Rattle.machine_model.specs.Calls.{OnlyReads};
 ghost use Rattle.machine_model.specs.Causes.{Rose};
 ghost use Rattle.journal_bodies.specs.Numbered.{AreIn};
@@ -8,29 +8,32 @@ ghost use Rattle.model_archive.specs.Histories.{History};
 ghost use Rattle.model_archive.specs.Stands.{bodies_of};
 ghost use Rattle.archive_hand.specs.Stored.{Store};
 ghost use Rattle.model_follow.specs.Following.{Took, note_text};
-ghost use Rattle.run_taking.specs.Serving.{CanGoOn, ComesOfPacket, IsAnswered, IsCaseOf, IsFollowing};
+ghost use Rattle.run_taking.specs.Serving.{CanGoOn, ComesOfPacket, ComesOfReading, IsAnswered, IsCaseOf, IsFollowing};
 
 use crate::ended::Ended;
 use archive_follow::{TakeEntryError, take_entry};
 use archive_hand::Archive;
 use archive_replies::ReplyPage;
 use journal_bodies::NumberedBodies;
+use journal_gates::JournalError;
 use journal_packets::{Case, Packet, sort_out};
-use machine_model::{Disk, Failed};
+use machine_model::Disk;
 use std::alloc::Global;
 
-/// What a packet is to the history whose bodies these are: one is read where its number is there.
+/// What a packet is to the history whose bodies these are: the one of its number is read where there is one. Or
+/// how the run ends where that can't be read.
 fn case_of<D: Disk>(
     disk: &mut D,
     bodies: &mut NumberedBodies,
     packet: &Packet,
-) -> Result<Case, Failed>
+) -> Result<Case, Ended>
     requires proper { IsFramed (framed packet.now) }
     requires reached { bodies.old.window.end ≤ (D.disk disk.old).reach.journal }
     ensures only { D.Disk.only disk.old disk.new }
     ensures same { OnlyReads (D.disk disk.old) (D.disk disk.new) }
     ensures unread { D.disk_tells → (D.disk disk.new).bytes_read.pages ≡ (D.disk disk.old).bytes_read.pages }
-    ensures failed { IsErr result → Rose (D.disk disk.old).faults (D.disk disk.new).faults }
+    ensures failed { IsErrOf result Ended.Disk → Rose (D.disk disk.old).faults (D.disk disk.new).faults }
+    ensures ended { IfErr result (λ end. ComesOfReading end) }
     ensures ends { bodies.new.window.end ≡ bodies.old.window.end }
     ensures heads { bodies.new.heads ≡ bodies.old.heads }
     ensures case { D.disk_tells → (h : History) → AreIn (D.disk disk.old).holds.journal (bodies_of h) bodies.old
@@ -43,7 +46,8 @@ fn case_of<D: Disk>(
     }
     match bodies.find(disk, packet.number) {
         Ok(head) => Ok(sort_out(have, Some(bodies.body(&head)), packet)),
-        Err(_) => Err(Failed),
+        Err(JournalError::Memory) => Err(Ended::Memory),
+        Err(_) => Err(Ended::Disk),
     }
 }
 
@@ -101,7 +105,7 @@ pub(crate) fn answer<D: Disk>(
 {
     let case = match case_of(disk, bodies, packet) {
         Ok(case) => case,
-        Err(_) => return Err(Ended::Disk),
+        Err(end) => return Err(end),
     };
     match case {
         Case::Had => {

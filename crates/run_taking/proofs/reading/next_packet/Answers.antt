@@ -4,6 +4,7 @@ use Rattle.journal_packets.specs.Reading.{IsAwaited}
 use Rattle.journal_packets.specs.declared.packet.Packet.{Packet}
 use Rattle.run_taking.specs.Serving.{Gives, end_by, next_by, pulls_beside}
 use Rattle.run_taking.specs.declared.ended.Ended.{Ended}
+use Rattle.run_taking.specs.declared.ended.Ended.TheVariants.{Done}
 use Rattle.run_taking.proofs.reading.next_packet.Given.{Over}
 use Rattle.run_taking.proofs.reading.next_packet.Goals.{After-next_packet}
 use Rattle.run_taking.proofs.reading.next_packet.Goals as goal
@@ -24,10 +25,10 @@ asked g c =
     (made.0, g.met.M.Machine.asked_laws.by c.args.machine.now c.next_packet.new.source made.0 made.1, made.2)
 
 pub returns-in-Ok-Some-clause-gives : goal.returns-in-Ok-Some-clause-gives
-returns-in-Ok-Some-clause-gives g c = given g (goal.at.returns-in-Ok-Some-clause-gives g c).After-next_packet _ (ap next_by (sym (c.in-Ok-Some.is)))
+returns-in-Ok-Some-clause-gives g c = given g (goal.at.returns-in-Ok-Some-clause-gives g c).After-next_packet (Ok c.in-Ok-Some.packet) (ap next_by (sym (c.in-Ok-Some.is ∙ ap Ok c.in-Ok-Some.field-0-is)))
 
 pub returns-in-Ok-None-clause-gives : goal.returns-in-Ok-None-clause-gives
-returns-in-Ok-None-clause-gives g c = given g (goal.at.returns-in-Ok-None-clause-gives g c).After-next_packet _ (ap next_by (sym (c.in-Ok-None.is)))
+returns-in-Ok-None-clause-gives g c = given g (goal.at.returns-in-Ok-None-clause-gives g c).After-next_packet (Err Done) (ap next_by (sym (c.in-Ok-None.is ∙ ap Ok c.in-Ok-None.field-0-is)))
 
 pub returns-in-Err-clause-gives : goal.returns-in-Err-clause-gives
 returns-in-Err-clause-gives g c = given g (goal.at.returns-in-Err-clause-gives g c).After-next_packet _ (ap Err c.ended_by.ensures ∙ ap next_by (sym c.in-Err.is))

@@ -37,7 +37,7 @@ returns-clause-goes_on g c = λ source_tells sink_tells disk_tells s began befor
     let made = c.next_packet.ensures.asked in
     let gives : Gives c.args.reader.now c.next_packet.new.reader (Ok c.in-Ok.packet) (g.M.Source.source c.args.machine.now) (g.M.Source.source last) = rw c.carry_out.ensures.source (c.in-Ok.ensures.gives source_tells) in (
       pulls_beside (g.M.Sink.sink mid).shown made.0,
-      rw append-nil at (g.met.M.Machine.asked_laws.join _ _ _ _ [] (rw c.next_packet.ensures.sink made.1) c.carry_out.ensures.asked),
+      rw append-nil at (g.met.M.Machine.asked_laws.join c.args.machine.now mid last (pulls_beside (g.M.Sink.sink mid).shown made.0) [] (rw c.next_packet.ensures.sink made.1) c.carry_out.ensures.asked),
       went_on s began _ (g.M.Source.source last) (g.M.Sink.sink last) (g.M.Disk.disk last) c.args.archive.now c.carry_out.new.archive c.args.reader.now c.next_packet.new.reader c.args.bodies.now c.carry_out.new.bodies before made.0 c.in-Ok.packet c.carry_out.result
           c.carry_out.ensures.undone (g.met.M.Machine.beside_shown mid sink_tells disk_tells) here (made.2 source_tells) gives (c.carry_out.ensures.came disk_tells sink_tells (last_state s here.outcomes) here.following),
     )
