@@ -103,6 +103,11 @@ ComesOfReading ends.Disk = Unit {0}
 ComesOfReading ends.Memory = Unit {0}
 ComesOfReading other = ⊥
 
+-- an end behind the load: the journal is an archive's
+abbrev pub IsBehindLoad : Ended → Type 0
+IsBehindLoad (ends.NotArchive at) = ⊥
+IsBehindLoad other = Unit {0}
+
 -- the ends that come of a packet before its line is shown
 abbrev pub ComesOfPacket : Ended → Type 0
 ComesOfPacket ends.Disk = Unit {0}

@@ -10,7 +10,7 @@ use Rattle.run_taking.specs.Following.{Followed}
 use Rattle.run_taking.specs.Serving.{Serves, Serving}
 use Rattle.run_taking.specs.declared.ended.Ended.{Ended}
 use Rattle.run_taking.specs.declared.ended.Ended.TheVariants.{Disk, Memory}
-use Rattle.run_taking.proofs.EndLemmas.{may_end_later}
+use Rattle.run_taking.proofs.EndLemmas.{may_end_later, never_no_archive}
 use Rattle.run_taking.proofs.StartLemmas.{by_bytes, followed_none, held_by, is_archive, later_alone, serving_start, spelled_now}
 use Rattle.run_taking.proofs.StandLemmas.{followed_by}
 use Rattle.run_taking.proofs.following.follow.Given.{Over}
@@ -107,3 +107,12 @@ returns-clause-ends g c = λ source_tells sink_tells disk_tells s in_step idle.
     let made = served g (goal.at.returns-clause-ends g c).After-serve source_tells sink_tells disk_tells s in_step idle in
     by_bytes c.serve.result old new (may_end_later c.serve.result old mid new (later_alone old mid alone.0 alone.1 (g.met.M.Disk.only_faults m n c.of.ensures.only)) c.serve.ensures.cause)
     (is_archive s c.serve.result old new made.0 made.2)
+
+pub returns-in-Err-NotJournal-clause-fair : goal.returns-in-Err-NotJournal-clause-fair
+returns-in-Err-NotJournal-clause-fair g c = λ disk_tells s in_step at is.
+    let m = c.args.machine.now in
+    absurd (c.of.ensures.never disk_tells (bodies_of s.history) (spelled_now (g.M.Disk.disk m) c.args.archive.now s (g.met.M.Disk.holds_allowed m disk_tells) in_step) (c.journal.ensures ∙ in_step.journal.end_is) c.in-Err-NotJournal.at
+    (c.in-Err-NotJournal.is ∙ ap Err c.in-Err-NotJournal.field-0-is))
+
+pub returns-clause-fair : goal.returns-clause-fair
+returns-clause-fair g c = λ disk_tells s in_step at is. never_no_archive c.serve.result at c.serve.ensures.loaded is

@@ -1,10 +1,10 @@
-use Rattle.std.proofs.Common.{◌≡◌, ℕ, List, Option, Some, None, Result, Ok, Err, All, ap, sym, ◌∙◌}
-use Rattle.machine_model.specs.States.{SourceState}
+use Rattle.std.proofs.Common.{◌≡◌, ℕ, List, Result, Ok, Err, All, ap, sym, ◌∙◌}
 use Rattle.journal_packets.specs.Reading.{IsAwaited}
 use Rattle.journal_packets.specs.declared.packet.Packet.{Packet}
-use Rattle.run_taking.specs.Serving.{Gives, end_by, next_by, pulls_beside}
+use Rattle.run_taking.specs.Serving.{Gives, next_by, pulls_beside}
 use Rattle.run_taking.specs.declared.ended.Ended.{Ended}
 use Rattle.run_taking.specs.declared.ended.Ended.TheVariants.{Done}
+use Rattle.run_taking.proofs.EndLemmas.{reader_behind_load}
 use Rattle.run_taking.proofs.reading.next_packet.Given.{Over}
 use Rattle.run_taking.proofs.reading.next_packet.Goals.{After-next_packet}
 use Rattle.run_taking.proofs.reading.next_packet.Goals as goal
@@ -41,3 +41,6 @@ returns-in-Ok-None-clause-asked g c = asked g (goal.at.returns-in-Ok-None-clause
 
 pub returns-in-Err-clause-asked : goal.returns-in-Err-clause-asked
 returns-in-Err-clause-asked g c = asked g (goal.at.returns-in-Err-clause-asked g c).After-next_packet
+
+pub returns-in-Err-clause-loaded : goal.returns-in-Err-clause-loaded
+returns-in-Err-clause-loaded g c = reader_behind_load _ _ c.ended_by.ensures
