@@ -4,6 +4,7 @@ use Rattle.std.proofs.lemmas.Bool.{false≢true}
 use Rattle.std.proofs.lemmas.List.{append-nil}
 use Rattle.std.proofs.lemmas.List.Elements.{All-nil}
 use Rattle.machine_model.specs.Areas.{Bytes}
+use Rattle.machine_model.specs.Causes.{Rose}
 use Rattle.machine_model.specs.Images.{MayLeave}
 use Rattle.machine_model.specs.Moments.{LeavesOnly}
 use Rattle.machine_model.specs.Pulls.{Pull}
@@ -24,10 +25,12 @@ use Rattle.model_follow.specs.Following.Note.{Had, Took}
 use Rattle.run_taking.specs.Following.{ComesAfterLines, EndsAt, EndsByBytes, Followed, Ran, SpellsIn, TellsAll}
 use Rattle.run_taking.specs.declared.ended.Ended.{Ended}
 use Rattle.run_taking.specs.declared.ended.Ended.TheVariants as ends
+use Rattle.run_script.specs.Exporting.{EndsExport}
 use Rattle.run_script.specs.Following.{EndsFollow, IsDecided, Replicated}
-use Rattle.run_script.specs.Statuses.{status_of_ended, status_of_load}
+use Rattle.run_script.specs.Sampling.{EndsSample}
+use Rattle.run_script.specs.Statuses.{OfPackets, status_of_ended, status_of_load}
 use Rattle.run_script.specs.declared.status.Status.{Status}
-use Rattle.run_script.specs.declared.status.Status.TheVariants.{NotArchive, Disk, Source, Sink}
+use Rattle.run_script.specs.declared.status.Status.TheVariants.{NotArchive, Disk, Source, Sink, Usage, NotEmpty, Memory, Gap, Conflict, Packet}
 
 -- ---- how it ends
 
@@ -151,6 +154,7 @@ load_ended status loads.Memory is never = (ends.Memory, (is, tt, λ tells. tells
 pub not_followed : (h : History) (status : Status) (error : LoadError) (old new : MachineState) → status ≡ status_of_load error → ((at : ℕ) → error ≡ loads.NotArchive at → ⊥) → new.source ≡ old.source → new.sink ≡ old.sink
     → old.disk.now.beside ≡ old.sink.shown → KeepsPages old.disk new.disk → (EachSpells old.disk (bodies_of h) → KeepsBodies (bodies_of h) old.disk new.disk) → (EachStands old.disk h → KeepsHistory h old.disk new.disk)
     → Replicated h status old new []
+unfolding nothing_ran
 not_followed h status error old new is never source sink beside pages bodies keeps =
     let (end, (same, early, quiet, going, at)) = load_ended status error is never in
     record {
@@ -176,30 +180,66 @@ pub is_followed : (h : History) (end : Ended) (status : Status) (old mid new : M
     → KeepsPages old.disk mid.disk → (EachSpells old.disk (bodies_of h) → KeepsBodies (bodies_of h) old.disk mid.disk) → (EachStands old.disk h → KeepsHistory h old.disk mid.disk)
     → Followed h end mid new pulls → Replicated h status old new pulls
 is_followed h end status old mid new pulls is source sink beside pages bodies keeps followed =
-    let outcomes = followed.ran.outcomes in
+    let F : SourceState → SinkState → Type 0 = λ x y. Followed h end (record { source = x; sink = y; disk = mid.disk }) new pulls in
+    let f : Followed h end (record { source = old.source; sink = old.sink; disk = mid.disk }) new pulls = subst (λ (x : SourceState). F x old.sink) source (subst (λ (y : SinkState). F mid.source y) sink followed) in
+    let outcomes = f.ran.outcomes in
     let before = old.sink.shown in
-    let R : SourceState → SinkState → Type 0 = λ x y. Ran Follows (λ (z : History). z) h end x new.source y new.sink pulls in
-    let late : LeavesOnly mid.disk new.disk (Reopens note_text SpellsIn h outcomes before) =
-    subst (λ (y : SinkState). LeavesOnly mid.disk new.disk (Reopens note_text SpellsIn h outcomes y.shown)) sink followed.spelled in
     record {
       end = end;
       status_is = is;
-      ran = subst (λ (x : SourceState). R x old.sink) source (subst (λ (y : SinkState). R mid.source y) sink followed.ran);
-      goes_on = goes_on_joins pages.goes_on followed.goes_on;
+      ran = f.ran;
+      goes_on = goes_on_joins pages.goes_on f.goes_on;
       durable = joined (λ image other. (other ≡ before) ⊎ Reopens note_text SpellsIn h outcomes before image other) pages.goes_on (λ image other left. inl ((pages.images image other left).3 ∙ beside))
-          followed.goes_on (λ image other left. inr (late image other left));
+          f.goes_on (λ image other left. inr (f.spelled image other left));
       spelled = λ each. (
           let kept = bodies each in
           joined (Reopens note_text SpellsIn h outcomes before) kept.goes_on
-          (λ image other left. let was = kept.images image other left in reopens_early SpellsIn h outcomes before image other (was.1 ∙ beside) was.0) followed.goes_on late);
+          (λ image other left. let was = kept.images image other left in reopens_early SpellsIn h outcomes before image other (was.1 ∙ beside) was.0) f.goes_on f.spelled);
       images = λ each. (
           let kept = keeps each in
           joined (Reopens note_text Stands h outcomes before) kept.goes_on
-          (λ image other left. let was = kept.images image other left in reopens_early Stands h outcomes before image other (was.1 ∙ beside) was.0) followed.goes_on
-          (subst (λ (y : SinkState). LeavesOnly mid.disk new.disk (Reopens note_text Stands h outcomes y.shown)) sink (followed.images (stands_still each))));
-      last_spelled = followed.last_spelled;
-      last = λ each. followed.last (stands_still each);
+          (λ image other left. let was = kept.images image other left in reopens_early Stands h outcomes before image other (was.1 ∙ beside) was.0) f.goes_on
+          (f.images (stands_still each)));
+      last_spelled = f.last_spelled;
+      last = λ each. f.last (stands_still each);
     }
   where
     stands_still : EachStands old.disk h → EachStands mid.disk h
     stands_still each image allowed = ((keeps each).images image mid.disk.now.beside (allowed_left mid.disk (moment old.disk) image allowed)).0
+
+-- ---- statuses that speak of packets
+
+-- neither a sample nor an export ends so
+pub sample_no_packets : (status : Status) → EndsSample status ⊎ (((at : ℕ) × (status ≡ NotArchive at)) ⊎ ((n : ℕ) × (status ≡ NotEmpty n))) → OfPackets status → ⊥
+sample_no_packets status (inl ends_so) of = go status ends_so of
+  where
+    go : (s : Status) → EndsSample s → OfPackets s → ⊥
+    go (Gap have got) ends_so of = ends_so
+    go (Conflict number place kept got) ends_so of = ends_so
+    go (Packet at) ends_so of = ends_so
+    go other ends_so of = of
+sample_no_packets status (inr (inl (at, is))) of = subst OfPackets is of
+sample_no_packets status (inr (inr (n, is))) of = subst OfPackets is of
+
+pub export_no_packets : (status : Status) → EndsExport status → OfPackets status → ⊥
+export_no_packets (Gap have got) ends_so of = ends_so
+export_no_packets (Conflict number place kept got) ends_so of = ends_so
+export_no_packets (Packet at) ends_so of = ends_so
+export_no_packets other ends_so of = of
+
+-- nor does a run whose words were refused, or whose archive wasn't loaded
+pub refused_no_packets : (X : Type 0) (status : Status) → (status ≡ Memory) ⊎ ((status ≡ Usage) × X) → OfPackets status → ⊥
+refused_no_packets X status (inl is) of = subst OfPackets is of
+refused_no_packets X status (inr is) of = subst OfPackets is.0 of
+
+pub load_no_packets : (status : Status) (error : LoadError) → status ≡ status_of_load error → OfPackets status → ⊥
+load_no_packets status loads.Failed is of = subst OfPackets is of
+load_no_packets status (loads.NotArchive at) is of = subst OfPackets is of
+load_no_packets status loads.Memory is of = subst OfPackets is of
+
+-- ---- behind the load
+
+-- where nothing is wrong, the bytes decide
+pub is_decided : (status : Status) (end : Ended) (old new : MachineState) → status ≡ status_of_ended end → EndsByBytes end old new → (Rose old.disk.faults new.disk.faults → ⊥) → (Rose old.source.faults new.source.faults → ⊥)
+    → (Rose old.sink.faults new.sink.faults → ⊥) → (end ≡ ends.Source → ⊥) → IsDecided status
+is_decided status end old new is by disk source sink other = (tells_ended status end is).decided (by disk source sink) other

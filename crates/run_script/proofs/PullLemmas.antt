@@ -26,7 +26,7 @@ use Rattle.run_script.specs.Statuses.{status_of_stop}
 use Rattle.run_script.specs.declared.stop.Stop.{Stop}
 use Rattle.run_script.specs.declared.stop.Stop.TheVariants as stops
 use Rattle.run_script.specs.declared.status.Status.{Status}
-use Rattle.run_script.specs.declared.status.Status.TheVariants.{Done, Usage, NotArchive, Disk, Sink, Source, Budget, Script, Damaged, NotEmpty, Memory}
+use Rattle.run_script.specs.declared.status.Status.TheVariants.{Done, Usage, NotArchive, Disk, Sink, Source, Budget, Script, Damaged, NotEmpty, Memory, Gap, Conflict, Packet}
 
 -- ---- calls of the reader
 
@@ -207,6 +207,9 @@ completes (NotEmpty n) old new ends may script few disk source sink = absurd (ma
 completes Disk old new ends may script few disk source sink = absurd (disk refl)
 completes Source old new ends may script few disk source sink = absurd (source refl)
 completes Sink old new ends may script few disk source sink = absurd (sink refl)
+completes (Gap have got) old new ends may script few disk source sink = absurd (may.no_packets tt)
+completes (Conflict number place kept got) old new ends may script few disk source sink = absurd (may.no_packets tt)
+completes (Packet at) old new ends may script few disk source sink = absurd (may.no_packets tt)
 
 -- ---- what is left over calls in a row, and what may have been the cause of the end
 
@@ -230,6 +233,7 @@ ends_later status old mid new later ends = record {
   no_usage = ends.no_usage;
   no_load = ends.no_load;
   not_full = ends.not_full;
+  no_packets = ends.no_packets;
 }
 
 -- what stopped a run ended it
@@ -237,10 +241,10 @@ pub stop_ends : (status : Status) (stop : Stop) (old new : MachineState) → sta
 stop_ends status stop old new is disk sink = subst (λ (st : Status). MayEnd st old new) (sym is) (go stop disk sink)
   where
     go : (s : Stop) → (s ≡ stops.Disk → Rose old.disk.faults new.disk.faults) → (s ≡ stops.Sink → Rose old.sink.faults new.sink.faults) → MayEnd (status_of_stop s) old new
-    go stops.Disk disk sink = record { source = λ is. absurd cc; sink = λ is. absurd cc; disk = λ is. disk refl; no_usage = λ is. cc; no_load = λ at is. cc; not_full = λ n is. cc }
-    go stops.Sink disk sink = record { source = λ is. absurd cc; sink = λ is. sink refl; disk = λ is. absurd cc; no_usage = λ is. cc; no_load = λ at is. cc; not_full = λ n is. cc }
-    go stops.Memory disk sink = record { source = λ is. absurd cc; sink = λ is. absurd cc; disk = λ is. absurd cc; no_usage = λ is. cc; no_load = λ at is. cc; not_full = λ n is. cc }
-    go (stops.Damaged damage) disk sink = record { source = λ is. absurd cc; sink = λ is. absurd cc; disk = λ is. absurd cc; no_usage = λ is. cc; no_load = λ at is. cc; not_full = λ n is. cc }
+    go stops.Disk disk sink = record { source = λ is. absurd cc; sink = λ is. absurd cc; disk = λ is. disk refl; no_usage = λ is. cc; no_load = λ at is. cc; not_full = λ n is. cc; no_packets = λ of. of }
+    go stops.Sink disk sink = record { source = λ is. absurd cc; sink = λ is. sink refl; disk = λ is. absurd cc; no_usage = λ is. cc; no_load = λ at is. cc; not_full = λ n is. cc; no_packets = λ of. of }
+    go stops.Memory disk sink = record { source = λ is. absurd cc; sink = λ is. absurd cc; disk = λ is. absurd cc; no_usage = λ is. cc; no_load = λ at is. cc; not_full = λ n is. cc; no_packets = λ of. of }
+    go (stops.Damaged damage) disk sink = record { source = λ is. absurd cc; sink = λ is. absurd cc; disk = λ is. absurd cc; no_usage = λ is. cc; no_load = λ at is. cc; not_full = λ n is. cc; no_packets = λ of. of }
 
 pub left_joins : (tells : Type 0) (old mid new : DiskState) (first then now : ArchiveState) → IsLeft tells old mid first then → IsLeft tells mid new then now → IsLeft tells old new first now
 left_joins tells old mid new first then now one other = record {

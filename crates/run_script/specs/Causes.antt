@@ -7,6 +7,7 @@ use Rattle.model_archive.specs.Stands.{EachStands}
 use Rattle.archive_hand.specs.Changing.{KeepsHistory}
 use Rattle.archive_hand.specs.States.{ArchiveState, CacheStands}
 use Rattle.run_script.specs.Outcomes.{CanGoOn}
+use Rattle.run_script.specs.Statuses.{OfPackets}
 use Rattle.run_script.specs.declared.status.Status.{Status}
 use Rattle.run_script.specs.declared.status.Status.TheVariants.{Usage, NotArchive, Disk, Source, Sink, NotEmpty}
 
@@ -34,6 +35,8 @@ pub record MayEnd (status : Status) (old new : MachineState) : Type 0 where
   pub no_load : (at : ℕ) → status ≡ NotArchive at → ⊥
   -- the archive may have entries
   pub not_full : (length : ℕ) → status ≡ NotEmpty length → ⊥
+  -- no packet is read
+  pub no_packets : OfPackets status → ⊥
 
 -- After an item a run can go on with the archive: `tells` says that the disk tells.
 pub record IsLeft (tells : Type 0) (old new : DiskState) (archive archive_now : ArchiveState) : Type 0 where

@@ -37,6 +37,13 @@ code_of (Gap have got) = 13
 code_of (Conflict number place kept got) = 14
 code_of (Packet at) = 15
 
+-- the statuses that speak of packets
+abbrev pub OfPackets : Status → Type 0
+OfPackets (Gap have got) = Unit {0}
+OfPackets (Conflict number place kept got) = Unit {0}
+OfPackets (Packet at) = Unit {0}
+OfPackets other = ⊥
+
 -- what is told of why a sublist is damaged
 abbrev pub why_text : Why → List ℕ
 why_text Form = codes "form"

@@ -19,6 +19,7 @@ ghost use Rattle.run_script.specs.Exporting.{EndsExport, Exported, LeavesAlone};
 ghost use Rattle.run_script.specs.Following.{EndsFollow, IsCompletelyFollowed, Replicated};
 ghost use Rattle.run_script.specs.Headline.{Ends, EndsSpoiled, IsComplete, IsLoadedFrom, LoadsAs, ReadingRun, StandingRun, store_of};
 ghost use Rattle.run_script.specs.Sampling.{EndsSample, Sampled};
+ghost use Rattle.run_script.specs.Statuses.{OfPackets};
 
 use crate::exporting::run_export;
 use crate::following::run_follow;
@@ -75,6 +76,8 @@ pub fn run<M: Machine>(alloc: Global, words: &[String], machine: &mut M) -> Stat
     ensures disk_fault { result ≡ Status.Disk → Rose (M.disk machine.old).faults (M.disk machine.new).faults }
     ensures source_fault { result ≡ Status.Source → Rose (M.source machine.old).faults (M.source machine.new).faults }
     ensures sink_fault { result ≡ Status.Sink → Rose (M.sink machine.old).faults (M.sink machine.new).faults }
+    // Statuses that speak of packets come with the word of a follower alone.
+    ensures packets { OfPackets result → AreWords (texts words.now) tasks.Follow }
     // The journal is refused exactly where the bytes are no archive's, unless the disk failed or memory ran out first.
     ensures not_archive { M.disk_tells → (at : ℕ) → result ≡ Status.NotArchive at → IsNotArchive (M.disk machine.old).holds at }
     ensures refused { M.disk_tells → (task : PlainTask) → AreWords (texts words.now) task → (at : ℕ)

@@ -6,6 +6,7 @@ ghost use Rattle.machine_model.specs.Pulls.{Pull};
 ghost use Rattle.machine_model.specs.States.{state_by};
 ghost use Rattle.model_archive.specs.Histories.{History};
 ghost use Rattle.model_archive.specs.Stands.{IsNotArchive, Stands};
+ghost use Rattle.run_script.specs.Statuses.{OfPackets};
 ghost use Rattle.run_script.specs.Headline.{Ends, EndsSpoiled, IsComplete, IsLoadedFrom, LoadsAs, ReadingRun, StandingRun, store_of};
 
 use crate::desk::Desk;
@@ -20,6 +21,7 @@ use std::alloc::Global;
 pub(crate) fn run_script<M: Machine>(alloc: Global, machine: &mut M) -> Status
     ensures no_usage { result ≡ Status.Usage → ⊥ }
     ensures not_full { (length : ℕ) → result ≡ Status.NotEmpty length → ⊥ }
+    ensures no_packets { OfPackets result → ⊥ }
     ensures disk_fault { result ≡ Status.Disk → Rose (M.disk machine.old).faults (M.disk machine.new).faults }
     ensures source_fault { result ≡ Status.Source → Rose (M.source machine.old).faults (M.source machine.new).faults }
     ensures sink_fault { result ≡ Status.Sink → Rose (M.sink machine.old).faults (M.sink machine.new).faults }

@@ -6,10 +6,12 @@ use Rattle.run_words.specs.declared.task.Task.TheVariants as tasks
 use Rattle.model_archive.specs.Stands.{StandsIn, bodies_of}
 use Rattle.model_archive.specs.Steps.{Step, Works}
 use Rattle.model_archive.specs.Worlds.{at_work, world_of}
+use Rattle.archive_entries.specs.declared.error.LoadError.TheVariants as loads
 use Rattle.archive_hand.specs.Stored.{StandsBy, StoreStep, StoreStint, is_at_work}
 use Rattle.run_script.specs.Headline.{CarriesOutAll, store_of}
 use Rattle.run_script.specs.declared.status.Status.TheVariants.{Memory}
 use Rattle.run_script.proofs.ExportLemmas.{load_spares, not_exported, pages_still}
+use Rattle.run_script.proofs.FollowLemmas.{export_no_packets, not_followed, refused_no_packets, sample_no_packets}
 use Rattle.run_script.proofs.PullLemmas.{not_pulled}
 use Rattle.run_script.proofs.SampleLemmas.{not_loaded}
 use Rattle.run_script.proofs.ServeLemmas.{bodies_still, kept_by, keeps_still, keeps_still_by, not_begun, syncs_still}
@@ -130,3 +132,41 @@ returns-in-Export-clause-refused g c = λ disk_tells task are at refused. c.run_
 
 pub returns-in-Export-clause-left_alone : goal.returns-in-Export-clause-left_alone
 returns-in-Export-clause-left_alone g c = λ disk_tells at refused. let alone = c.run_export.ensures.left_alone disk_tells at refused in (c.run_export.ensures.source, alone.0, alone.1)
+
+-- a run that follows
+pub returns-in-Err-clause-packets : goal.returns-in-Err-clause-packets
+returns-in-Err-clause-packets g c = λ of. absurd (refused_no_packets _ c.in-Err.status c.in-Err.ensures.refused of)
+
+pub returns-in-Script-clause-packets : goal.returns-in-Script-clause-packets
+returns-in-Script-clause-packets g c = λ of. absurd (c.run_script.ensures.no_packets of)
+
+pub returns-in-Export-clause-packets : goal.returns-in-Export-clause-packets
+returns-in-Export-clause-packets g c = λ of. absurd (export_no_packets c.run_export.result c.run_export.ensures.ends of)
+
+pub returns-in-Generate-clause-packets : goal.returns-in-Generate-clause-packets
+returns-in-Generate-clause-packets g c = λ of. absurd (sample_no_packets c.run_sample.result c.run_sample.ensures.ends of)
+
+pub returns-in-Follow-clause-packets : goal.returns-in-Follow-clause-packets
+returns-in-Follow-clause-packets g c = λ of. rw c.in-Follow.is at c.in-Ok.ensures.read
+
+pub returns-in-Err-clause-follow_ends : goal.returns-in-Err-clause-follow_ends
+returns-in-Err-clause-follow_ends g c = λ are. rw (memory g (goal.at.returns-in-Err-clause-follow_ends g c).In-Err tasks.Follow are) tt
+
+pub returns-in-Err-clause-follow_loaded : goal.returns-in-Err-clause-follow_loaded
+returns-in-Err-clause-follow_loaded g c = λ disk_tells are. inr (inr (inr (memory g (goal.at.returns-in-Err-clause-follow_loaded g c).In-Err tasks.Follow are)))
+
+pub returns-in-Err-clause-followed : goal.returns-in-Err-clause-followed
+returns-in-Err-clause-followed g c = λ source_tells sink_tells disk_tells are h begins.
+    let m = c.args.machine.now in
+    let d = g.M.Disk.disk m in
+    let none = memory g (goal.at.returns-in-Err-clause-followed g c).In-Err tasks.Follow are in (
+      [],
+      g.met.M.Machine.asked_laws.of_disk m m (g.met.M.Disk.only_same m),
+      not_followed h c.in-Err.status loads.Memory _ _ none (λ at is. cc) refl refl (g.met.M.Machine.beside_shown m sink_tells disk_tells) (pages_still d) (bodies_still (bodies_of h) d) (keeps_still h d),
+    )
+
+pub returns-in-Err-clause-follow_complete : goal.returns-in-Err-clause-follow_complete
+returns-in-Err-clause-follow_complete g c = λ source_tells sink_tells disk_tells are archive disk source sink. rw (memory g (goal.at.returns-in-Err-clause-follow_complete g c).In-Err tasks.Follow are) tt
+
+pub returns-in-Follow-clause-refused : goal.returns-in-Follow-clause-refused
+returns-in-Follow-clause-refused g c = λ disk_tells task are at refused. c.run_follow.ensures.refused disk_tells at refused

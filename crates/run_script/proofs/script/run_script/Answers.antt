@@ -11,6 +11,7 @@ use Rattle.run_script.specs.Causes.{MayEnd}
 use Rattle.run_script.specs.Headline.{LoadsAs, store_of}
 use Rattle.run_script.specs.Serving.{Serves}
 use Rattle.run_script.specs.declared.status.Status.TheVariants.{Memory}
+use Rattle.run_script.proofs.FollowLemmas.{load_no_packets}
 use Rattle.run_script.proofs.PullLemmas.{completes, ends_later, later_alone, not_early, not_pulled, pulling_start, spoiled_start}
 use Rattle.run_script.proofs.ServeLemmas.{begins_in_step, kept_by, keeps_still, keeps_still_by, load_keeps, load_completes, load_early, load_ends, load_fails, load_refused, load_undamaged, loads_archive, loads_found, not_begun, serving_start, stands_loads, synced_if_refused, syncs_still, whole_run}
 use Rattle.run_script.proofs.StandingLemmas.{kept_history, standing_run}
@@ -214,3 +215,9 @@ returns-clause-damaged g c = λ disk_tells d is.
 
 pub returns-clause-loaded : goal.returns-clause-loaded
 returns-clause-loaded g c = λ disk_tells. let found = c.in-Ok-load.ensures.by_reads disk_tells in inl (found.0.history, loads_found (g.M.Disk.disk c.args.machine.now) found)
+
+pub returns-in-Err-load-clause-no_packets : goal.returns-in-Err-load-clause-no_packets
+returns-in-Err-load-clause-no_packets g c = load_no_packets c.from.result c.in-Err-load.error c.from.ensures
+
+pub returns-clause-no_packets : goal.returns-clause-no_packets
+returns-clause-no_packets g c = c.serve.ensures.cause.no_packets
