@@ -124,6 +124,7 @@ none_acknowledged outcomes = record { within = omega arith; whole = ([], refl); 
     no_line : (note : Note) (xs ys : List ℕ) → [] ≡ (note_text note ++ xs) ++ ys → ⊥
     no_line (Had number) xs ys is = cc
     no_line (Took number) xs ys is = cc
+
     none : (all : List (Outcome Note History)) (m : ℕ) → m ≤ length all → IsPrefix (shown_by note_text (take m all)) [] → m ≤ 0
     none all zero most front = omega arith
     none [] (suc m) most front = absurd (omega (arith, most))

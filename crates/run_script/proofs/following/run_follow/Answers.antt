@@ -51,24 +51,24 @@ returns-in-Err-clause-complete g c = λ source_tells sink_tells disk_tells archi
 -- ---- it was loaded
 
 pub returns-clause-ends : goal.returns-clause-ends
-returns-clause-ends g c = (tells_ended c.from.result c.follow.result c.from.ensures).ends_so
+returns-clause-ends g c = (tells_ended c.from-2.result c.follow.result c.from-2.ensures).ends_so
 
 pub returns-clause-disk_fault : goal.returns-clause-disk_fault
 returns-clause-disk_fault g c = λ is.
-    omega (arith, g.met.M.Disk.only_faults c.args.machine.now c.load.new.disk c.load.ensures.only, c.follow.ensures.cause.disk ((tells_ended c.from.result c.follow.result c.from.ensures).disk is))
+    omega (arith, g.met.M.Disk.only_faults c.args.machine.now c.load.new.disk c.load.ensures.only, c.follow.ensures.cause.disk ((tells_ended c.from-2.result c.follow.result c.from-2.ensures).disk is))
 
 pub returns-clause-source_fault : goal.returns-clause-source_fault
 returns-clause-source_fault g c = λ is.
-    rw (g.met.M.Machine.disk_alone c.args.machine.now c.load.new.disk c.load.ensures.only).0 at (c.follow.ensures.cause.source ((tells_ended c.from.result c.follow.result c.from.ensures).source is))
+    rw (g.met.M.Machine.disk_alone c.args.machine.now c.load.new.disk c.load.ensures.only).0 at (c.follow.ensures.cause.source ((tells_ended c.from-2.result c.follow.result c.from-2.ensures).source is))
 
 pub returns-clause-sink_fault : goal.returns-clause-sink_fault
 returns-clause-sink_fault g c = λ is.
-    rw (g.met.M.Machine.disk_alone c.args.machine.now c.load.new.disk c.load.ensures.only).1 at (c.follow.ensures.cause.sink ((tells_ended c.from.result c.follow.result c.from.ensures).sink is))
+    rw (g.met.M.Machine.disk_alone c.args.machine.now c.load.new.disk c.load.ensures.only).1 at (c.follow.ensures.cause.sink ((tells_ended c.from-2.result c.follow.result c.from-2.ensures).sink is))
 
 pub returns-clause-not_archive : goal.returns-clause-not_archive
 returns-clause-not_archive g c = λ disk_tells at is.
     let found = c.in-Ok.ensures.by_reads disk_tells in
-    absurd (c.follow.ensures.fair disk_tells found.0 found.1.0 at ((tells_ended c.from.result c.follow.result c.from.ensures).archive at is))
+    absurd (c.follow.ensures.fair disk_tells found.0 found.1.0 at ((tells_ended c.from-2.result c.follow.result c.from-2.ensures).archive at is))
 
 pub returns-clause-refused : goal.returns-clause-refused
 returns-clause-refused g c = λ disk_tells at refused. absurd (c.in-Ok.ensures.exact disk_tells at refused)
@@ -89,7 +89,7 @@ returns-clause-followed g c = λ source_tells sink_tells disk_tells h begins.
     let made = c.follow.ensures.followed source_tells sink_tells disk_tells (store_of h d) in_step refl in (
       made.0,
       g.met.M.Machine.asked_laws.join m n c.follow.new.machine [] made.0 (g.met.M.Machine.asked_laws.of_disk m n c.load.ensures.only) made.1,
-      is_followed h c.follow.result c.from.result _ _ _ made.0 c.from.ensures alone.0 alone.1 (g.met.M.Machine.beside_shown m sink_tells disk_tells)
+      is_followed h c.follow.result c.from-2.result _ _ _ made.0 c.from-2.ensures alone.0 alone.1 (g.met.M.Machine.beside_shown m sink_tells disk_tells)
           (c.load.ensures.pages disk_tells) (c.load.ensures.kept disk_tells (bodies_of h)) (c.load.ensures.crash disk_tells h) made.2,
     )
 
@@ -100,5 +100,5 @@ returns-clause-complete g c = λ source_tells sink_tells disk_tells archive disk
     let alone = g.met.M.Machine.disk_alone m n c.load.ensures.only in
     let found = c.in-Ok.ensures.by_reads disk_tells in
     let by = c.follow.ensures.ends source_tells sink_tells disk_tells found.0 found.1.0 found.1.4 in
-    is_decided c.from.result c.follow.result _ _ c.from.ensures by (λ rose. disk (omega (arith, rose, g.met.M.Disk.only_faults m n c.load.ensures.only))) (λ rose. source (rw alone.0 at rose)) (λ rose. sink (rw alone.1 at rose))
+    is_decided c.from-2.result c.follow.result (state_by g.M.Source.source g.M.Sink.sink g.M.Disk.disk n) (state_by g.M.Source.source g.M.Sink.sink g.M.Disk.disk c.follow.new.machine) c.from-2.ensures by (λ rose. disk (omega (arith, rose, g.met.M.Disk.only_faults m n c.load.ensures.only))) (λ rose. source (rw alone.0 at rose)) (λ rose. sink (rw alone.1 at rose))
     (λ is. source (rw alone.0 at (c.follow.ensures.cause.source is)))
