@@ -14,7 +14,7 @@ use Rattle.journal_gates.specs.Heads.{heads_of}
 use Rattle.journal_gates.specs.Records.{first_gate, front}
 use Rattle.journal_gates.specs.Windows.{IsView}
 use Rattle.journal_gates.proofs.InStepLemmas.{step_spells}
-use Rattle.journal_packets.specs.Cases.{IsKeptCase, IsNewCase}
+use Rattle.journal_packets.specs.Cases.{IsNewCase}
 use Rattle.journal_packets.specs.Packets.{Framed, IsFramed}
 use Rattle.journal_packets.specs.declared.case.Case.{Case}
 use Rattle.journal_packets.specs.declared.case.Case.TheVariants as cases
@@ -45,12 +45,6 @@ new_case h p have cases.Had same is = absurd is
 new_case h p have (cases.Conflict place kept got) same is = absurd is
 new_case h p have cases.Gap same is = omega (arith, same, is)
 new_case h p have cases.Next same is = is ∙ ap (λ (n : ℕ). n + 1) same
-
-pub kept_case : (h : History) (p : Framed) (kept : List ℕ) (case : Case) → IsFramed p → slice_get (bodies_of h) (p.number - 1) ≡ Some kept → IsKeptCase kept p.body case → IsCaseOf h p case
-kept_case h p kept cases.Had proper there same = record { proper = proper; is = there ∙ ap (λ (l : List ℕ). Some l) (sym same) }
-kept_case h p kept (cases.Conflict place one other) proper there differ = (proper.counted, (kept, there, differ))
-kept_case h p kept cases.Gap proper there is = absurd is
-kept_case h p kept cases.Next proper there is = absurd is
 
 -- there are as many bodies as entries
 count_heads : (gate : ℕ) (bodies : List (List ℕ)) → length (heads_of gate bodies) ≡ length bodies

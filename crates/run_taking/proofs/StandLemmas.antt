@@ -3,7 +3,7 @@ use Rattle.std.proofs.Common.{◌≡◌, ◌⊎◌, ℕ, ◌≤◌, Bool, List, 
 use Rattle.std.proofs.lemmas.List.{length-map, map-append, take_all}
 use Rattle.std.proofs.lemmas.List.Elements.{All-weaker}
 use Rattle.machine_model.specs.Areas.{Bytes}
-use Rattle.machine_model.specs.Moments.{LeavesOnly}
+use Rattle.machine_model.specs.Moments.{GoesOn, LeavesOnly}
 use Rattle.machine_model.specs.Pulls.{Pull}
 use Rattle.machine_model.specs.Pushes.{IsPrefix}
 use Rattle.machine_model.specs.States.{DiskState, MachineState, SinkState, SourceState}
@@ -22,7 +22,7 @@ use Rattle.model_archive.specs.Stands.{EachStands, Stands, bodies_of}
 use Rattle.model_archive.proofs.HistoryLemmas.{entry_loads, loadable-push}
 use Rattle.model_archive.proofs.HoldLemmas.{held_alike, held_push, held_with}
 use Rattle.model_archive.proofs.RunLemmas.{reopens, state_after_all}
-use Rattle.machine_model.proofs.MomentLemmas.{joined}
+use Rattle.machine_model.proofs.MomentLemmas.{goes_on_joins, joined}
 use Rattle.plans_kinds.specs.Plans.{IsFitFor}
 use Rattle.archive_hand.specs.Stored.{EachStandsBy, StandsBy, Store, Stocks}
 use Rattle.model_follow.specs.Following.{Follows, Note, Had, Took, length_text, note_text}
@@ -208,6 +208,10 @@ followed_by s end old new pulls held serves =
     let outcomes = ran.outcomes in
     record {
       ran = ran_bare s end old.source new.source old.sink new.sink pulls ran;
+      goes_on = elim serves.closing [
+        | inl same ↦ subst (λ (d : DiskState). GoesOn old.disk d) (sym same) serves.carried.goes_on
+        | inr late ↦ goes_on_joins serves.carried.goes_on late.goes_on
+      ];
       spelled = all_reopen SpellsIn s outcomes old.sink.shown old.disk serves.mid new.disk (λ image shown on. spells_along s outcomes image shown on) (λ image stands. stands.spelled) serves.carried serves.closing;
       images = λ stands. all_reopen Stands s outcomes old.sink.shown old.disk serves.mid new.disk (λ image shown on. stands_along s ran.carried outcomes image shown ran.run (held stands) on)
           (λ image stands_by. stands_held (last_state s outcomes) image (last_held s ran.carried outcomes ran.run (held stands)) stands_by) serves.carried serves.closing;

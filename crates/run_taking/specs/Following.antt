@@ -3,7 +3,7 @@
 use Rattle.std.specs.Prelude.{◌≡◌, ◌⊎◌, ℕ, ◌<◌, ◌≤◌, ◌^◌, Bool, true, false, List, [], ◌++◌, length, All}
 use Rattle.machine_model.specs.Areas.{Bytes}
 use Rattle.machine_model.specs.Causes.{Rose}
-use Rattle.machine_model.specs.Moments.{LeavesOnly}
+use Rattle.machine_model.specs.Moments.{GoesOn, LeavesOnly}
 use Rattle.machine_model.specs.Pulls.{Pull}
 use Rattle.machine_model.specs.Pushes.{IsPrefix}
 use Rattle.machine_model.specs.States.{MachineState, SinkState, SourceState}
@@ -106,6 +106,7 @@ SpellsIn history image = Spells image.journal (bodies_of history)
 -- A run from this history: how it ended, the machine before and after, and the pulls among its calls.
 pub record Followed (history : History) (end : Ended) (old new : MachineState) (pulls : List Pull) : Type 0 where
   pub ran : Ran Follows (λ h. h) history end old.source new.source old.sink new.sink pulls
+  pub goes_on : GoesOn old.disk new.disk
   -- each image left since, with the bytes shown then, has the journal of the history after as many packets as these acknowledge, or one more; and it
   -- stands for that history, where each image stood for the first one
   pub spelled : LeavesOnly old.disk new.disk (Reopens note_text SpellsIn history ran.outcomes old.sink.shown)

@@ -27,6 +27,13 @@ use Rattle.run_taking.specs.Following.{ComesAfterLines, EndsFor, Ran, TellsAll}
 use Rattle.run_taking.specs.declared.ended.Ended.{Ended}
 use Rattle.run_taking.specs.declared.ended.Ended.TheVariants as ends
 
+-- ---- ends
+
+-- the ends of a run over packets: the journal was an archive's before
+abbrev pub EndsARun : Ended → Type 0
+EndsARun (ends.NotArchive at) = ⊥
+EndsARun other = Unit {0}
+
 -- ---- reading
 
 -- how a run ends where there is no next packet

@@ -1,5 +1,5 @@
 //! A run over the packets of the input.
-ghost use Rattle.std.specs.Prelude.{◌≡◌, ◌≤◌, List, IsTrue, None};
+ghost use Rattle.std.specs.Prelude.{◌≡◌, ◌≤◌, ℕ, List, IsTrue, None};
 ghost use Rattle.machine_model.specs.Pulls.{Pull};
 ghost use Rattle.machine_model.specs.States.{state_by};
 ghost use Rattle.archive_hand.specs.States.{AreInStepBy, Reaches};
@@ -26,6 +26,8 @@ pub fn follow<M: Machine>(alloc: Global, machine: &mut M, archive: &mut Archive)
     requires within { Reaches (M.disk machine.old).reach archive.old }
     ensures later { IsLater (state_by M.source M.sink M.disk machine.old) (state_by M.source M.sink M.disk machine.new) }
     ensures cause { MayEnd result (state_by M.source M.sink M.disk machine.old) (state_by M.source M.sink M.disk machine.new) }
+    // Behind a load the journal isn't refused.
+    ensures fair { M.disk_tells → (s : Store) → AreInStepBy (M.disk machine.old) archive.old s → (at : ℕ) → result ≡ Ended.NotArchive at → ⊥ }
     ensures followed { M.source_tells → M.sink_tells → M.disk_tells → (s : Store)
         → AreInStepBy (M.disk machine.old) archive.old s → s.job ≡ None →
         (pulls : List Pull) × M.asked machine.old pulls machine.new
