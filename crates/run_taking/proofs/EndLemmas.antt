@@ -1,6 +1,5 @@
 -- Counts of faults over calls in a row, and with which ends a run may end.
-use Rattle.std.proofs.Common.{◌≡◌, arith}
-use Rattle.machine_model.specs.Causes.{Rose}
+use Rattle.std.proofs.Common.{arith}
 use Rattle.machine_model.specs.States.{MachineState}
 use Rattle.run_taking.specs.Following.{IsLater, MayEnd}
 use Rattle.run_taking.specs.declared.ended.Ended.{Ended}

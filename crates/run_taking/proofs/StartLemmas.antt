@@ -1,12 +1,11 @@
 -- How a run begins, and one that ends before it begins.
-use Rattle.std.proofs.Common.{◌≡◌, ℕ, ◌+◌, ◌≤◌, false, List, [], ◌++◌, length, All, None, inl, inr, refl, ap, sym, subst, ◌∙◌, arith}
+use Rattle.std.proofs.Common.{◌≡◌, ℕ, ◌≤◌, false, List, [], None, inl, inr, refl, ap, sym, subst, ◌∙◌, arith}
 use Rattle.std.proofs.lemmas.Bool.{false≢true}
 use Rattle.std.proofs.lemmas.List.{append-nil}
 use Rattle.std.proofs.lemmas.List.Elements.{All-nil}
 use Rattle.machine_model.specs.Areas.{Bytes}
 use Rattle.machine_model.specs.Calls.{OnlyReads}
 use Rattle.machine_model.specs.Images.{MayLeave}
-use Rattle.machine_model.specs.Pulls.{Pull}
 use Rattle.machine_model.specs.States.{DiskState, MachineState, SinkState, SourceState}
 use Rattle.journal_bodies.specs.Numbered.{AreIn, NumberedState}
 use Rattle.journal_packets.specs.Packets.{IsFramed}

@@ -1,4 +1,4 @@
-use Rattle.std.proofs.Common.{[], Ok, Err, ap, sym, ◌∙◌}
+use Rattle.std.proofs.Common.{[], ap, sym, ◌∙◌}
 use Rattle.machine_model.specs.States.{SinkState}
 use Rattle.run_taking.proofs.ShownLemmas.{cut_short, shown_part, shown_whole}
 use Rattle.run_taking.proofs.serve.carry_out.Given.{Over}
