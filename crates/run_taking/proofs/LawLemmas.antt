@@ -1,7 +1,5 @@
 -- What holds of a run whose bytes are those of a leader.
-use Rattle.std.proofs.Common.{◌≡◌, ℕ, ◌≤◌, Bool, true, List, [], ◌++◌, length, Option, inl, inr, ap, sym, subst, ◌∙◌}
-use Rattle.machine_model.specs.Pulls.{Pull}
-use Rattle.machine_model.specs.States.{MachineState}
+use Rattle.std.proofs.Common.{◌≡◌, ℕ, ◌++◌, Bool, List, length, inl, inr, subst}
 use Rattle.journal_packets.specs.Packets.{Framed, first}
 use Rattle.journal_packets.specs.Streams.{IsStreamOf, stream}
 use Rattle.journal_packets.specs.declared.first.First.TheVariants.{Bad}
@@ -10,17 +8,15 @@ use Rattle.model_archive.specs.Standing.{last_state}
 use Rattle.model_archive.specs.Stands.{bodies_of}
 use Rattle.model_follow.specs.Following.{BeginWith, CannotBeTaken, DiffersAt}
 use Rattle.model_follow.specs.Laws.{FollowersOfALeader}
-use Rattle.run_taking.specs.Following.{EndsAt, Followed}
+use Rattle.run_taking.specs.Following.{EndsAt}
 use Rattle.run_taking.specs.Laws.{RunsKeepToTheLeader}
 use Rattle.run_taking.specs.declared.ended.Ended.{Ended}
-use Rattle.run_taking.specs.declared.ended.Ended.TheVariants.{Conflict, Packet}
 
 begin_so : (P Q : Framed → Type 0) (packets : List Framed) → ((p : Framed) → P p → Q p) → BeginWith packets P → BeginWith packets Q
 begin_so P Q packets so (p, others, is, holds) = (p, others, is, so p holds)
 
 pub keeps_to_the_leader : FollowersOfALeader → RunsKeepToTheLeader
-keeps_to_the_leader law leader history end old new pulls can goes f to_come streams =
-    let ran = f.ran in
+keeps_to_the_leader law leader history end input input_now output output_now pulls can goes ran to_come streams =
     let h : History = last_state history ran.outcomes in
     let read : IsStreamOf (bodies_of leader) ((stream (ran.carried ++ ran.behind) ++ ran.rest) ++ to_come) =
     subst (λ (l : List ℕ). IsStreamOf (bodies_of leader) (l ++ to_come)) ran.split streams in

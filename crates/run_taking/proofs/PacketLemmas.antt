@@ -1,5 +1,5 @@
 -- What comes of a packet: the entry that it has is there or is taken, or how the run ends says why not.
-use Rattle.std.proofs.Common.{◌≡◌, ◌⊎◌, ℕ, suc, ◌+◌, ◌-◌, ◌<◌, ◌≤◌, List, [], ◌∷◌, ◌++◌, length, map, slice_get, MatchOption, Option, Some, None, Result, Ok, Err, IsTrue, inl, inr, refl, ap, sym, subst, ◌∙◌, arith}
+use Rattle.std.proofs.Common.{◌≡◌, ◌⊎◌, ℕ, suc, ◌+◌, ◌-◌, List, [], ◌∷◌, ◌++◌, length, Option, Some, None, Result, Ok, Err, inl, inr, refl, ap, sym, subst, ◌∙◌, arith}
 use Rattle.std.proofs.lemmas.List.{length-map}
 use Rattle.machine_model.specs.Areas.{Bytes}
 use Rattle.machine_model.specs.Calls.{OnlyReads}
@@ -11,15 +11,14 @@ use Rattle.journal_entries.proofs.EntryLemmas.{one_entry}
 use Rattle.journal_entries.specs.Spelling.{spelling}
 use Rattle.journal_entries.specs.declared.entry.Entry.{Entry}
 use Rattle.journal_gates.specs.Heads.{heads_of}
-use Rattle.journal_gates.specs.Records.{first_gate, front}
+use Rattle.journal_gates.specs.Records.{first_gate}
 use Rattle.journal_gates.specs.Windows.{IsView}
 use Rattle.journal_gates.proofs.InStepLemmas.{step_spells}
-use Rattle.journal_packets.specs.Cases.{IsKeptCase, IsNewCase}
-use Rattle.journal_packets.specs.Packets.{Framed, IsFramed}
+use Rattle.journal_packets.specs.Cases.{IsNewCase}
+use Rattle.journal_packets.specs.Packets.{Framed}
 use Rattle.journal_packets.specs.declared.case.Case.{Case}
 use Rattle.journal_packets.specs.declared.case.Case.TheVariants as cases
 use Rattle.model_archive.specs.Histories.{History}
-use Rattle.model_archive.specs.Plans.{live_extents}
 use Rattle.model_archive.specs.Stands.{bodies_of}
 use Rattle.archive_hand.specs.Changing.{KeepsBy, LeadsBy}
 use Rattle.archive_hand.specs.Jobs.{plain_job}
@@ -28,12 +27,11 @@ use Rattle.archive_hand.specs.States.{ArchiveState, AreInStepBy, CacheStands}
 use Rattle.archive_hand.specs.Stored.{StandsBy, Store}
 use Rattle.archive_hand.proofs.ByReadsLemmas.{keeps_leads, keeps_nowhere, keeps_reads, reads_by, stocks_none}
 use Rattle.archive_hand.proofs.AddLemmas.{bodies_more}
-use Rattle.model_follow.specs.Following.{CannotBeTaken, DiffersAt, IsBeyond, Note, Had, Took, note_text}
+use Rattle.model_follow.specs.Following.{Had, Took, note_text}
 use Rattle.model_follow.specs.Taking.{MayBeTaken, SpellsNext}
 use Rattle.archive_follow.specs.Taken.{Takes, TakesBody, TakesBy}
 use Rattle.archive_follow.specs.declared.error.TakeEntryError.{TakeEntryError}
 use Rattle.archive_follow.specs.declared.error.TakeEntryError.TheVariants as takes
-use Rattle.run_taking.specs.Following.{EndsFor}
 use Rattle.run_taking.specs.Serving.{CameOf, ComesOfReading, IsCaseOf, IsFollowing, StoreFollows}
 use Rattle.run_taking.specs.declared.ended.Ended.{Ended}
 use Rattle.run_taking.specs.declared.ended.Ended.TheVariants as ends
@@ -45,12 +43,6 @@ new_case h p have cases.Had same is = absurd is
 new_case h p have (cases.Conflict place kept got) same is = absurd is
 new_case h p have cases.Gap same is = omega (arith, same, is)
 new_case h p have cases.Next same is = is ∙ ap (λ (n : ℕ). n + 1) same
-
-pub kept_case : (h : History) (p : Framed) (kept : List ℕ) (case : Case) → IsFramed p → slice_get (bodies_of h) (p.number - 1) ≡ Some kept → IsKeptCase kept p.body case → IsCaseOf h p case
-kept_case h p kept cases.Had proper there same = record { proper = proper; is = there ∙ ap (λ (l : List ℕ). Some l) (sym same) }
-kept_case h p kept (cases.Conflict place one other) proper there differ = (proper.counted, (kept, there, differ))
-kept_case h p kept cases.Gap proper there is = absurd is
-kept_case h p kept cases.Next proper there is = absurd is
 
 -- there are as many bodies as entries
 count_heads : (gate : ℕ) (bodies : List (List ℕ)) → length (heads_of gate bodies) ≡ length bodies

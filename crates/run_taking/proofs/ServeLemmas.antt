@@ -1,16 +1,14 @@
 -- A run over packets: what was read so far, and how it ends.
-use Rattle.std.proofs.Common.{◌≡◌, ◌⊎◌, ℕ, suc, ◌+◌, ◌<◌, ◌≤◌, ◌^◌, Bool, true, false, List, [], ◌∷◌, ◌++◌, length, map, All, Option, Some, None, Result, Ok, Err, IfErr, MatchResult, inl, inr, refl, ap, sym, subst, ◌∙◌, arith, append_assoc}
+use Rattle.std.proofs.Common.{◌≡◌, ℕ, suc, ◌+◌, List, [], ◌∷◌, ◌++◌, length, All, Option, Some, None, Result, Ok, Err, IfErr, MatchResult, inl, inr, refl, ap, sym, subst, ◌∙◌, arith, append_assoc}
 use Rattle.std.proofs.lemmas.List.{append-nil, append_cancel_left, length-append}
 use Rattle.std.proofs.lemmas.List.Elements.{All-append, All-cons, All-map, All-nil, All-weaker}
-use Rattle.machine_model.specs.Images.{MayLeave}
-use Rattle.machine_model.specs.Areas.{Bytes}
 use Rattle.machine_model.specs.Pulls.{Pull}
 use Rattle.machine_model.specs.Pushes.{IsPrefix, IsSameBeside, OnlyShows}
 use Rattle.machine_model.specs.States.{DiskState, MachineState, SinkState, SourceState, moment}
-use Rattle.machine_model.proofs.MomentLemmas.{allowed_left, goes_on_joins, joined}
+use Rattle.machine_model.proofs.MomentLemmas.{allowed_left, joined}
 use Rattle.journal_bodies.specs.Numbered.{NumberedState}
 use Rattle.journal_packets.specs.Packets.{Framed, IsFramed, first, framed, packet_bytes}
-use Rattle.journal_packets.specs.Reading.{Holds, IsAwaited, PacketsState, Says, Takes, fresh}
+use Rattle.journal_packets.specs.Reading.{Holds, IsAwaited, PacketsState, Says, Takes}
 use Rattle.journal_packets.specs.Streams.{Reads, stream}
 use Rattle.journal_packets.specs.declared.error.PacketError.{PacketError}
 use Rattle.journal_packets.specs.declared.error.PacketError.TheVariants as errors
@@ -24,8 +22,8 @@ use Rattle.archive_hand.specs.States.{ArchiveState}
 use Rattle.archive_hand.specs.Stored.{EachStandsBy, StandsBy, Store}
 use Rattle.archive_hand.proofs.ByReadsLemmas.{stands_by}
 use Rattle.model_follow.specs.Following.{Note, length_text, note_text}
-use Rattle.run_taking.specs.Following.{ComesAfterLines, EndsAt, EndsFor, Ran, TellsAll}
-use Rattle.run_taking.specs.Serving.{CarriesOut, Gives, HasGoneOver, IsCarriedOut, IsFollowing, IsShown, Pulling, Serves, Serving, StoreFollows, end_by, next_by, pulls_beside}
+use Rattle.run_taking.specs.Following.{ComesAfterLines, EndsAt, TellsAll}
+use Rattle.run_taking.specs.Serving.{CarriesOut, Gives, HasGoneOver, IsCarriedOut, IsFollowing, IsShown, Pulling, Serves, Serving, StoreFollows, next_by, pulls_beside}
 use Rattle.run_taking.specs.declared.ended.Ended.{Ended}
 use Rattle.run_taking.specs.declared.ended.Ended.TheVariants as ends
 use Rattle.run_taking.proofs.ShownLemmas.{following_beside}

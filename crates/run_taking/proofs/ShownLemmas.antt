@@ -1,5 +1,5 @@
 -- A line that is shown: pushes change no image, and each image left stands for what was before the packet or after it.
-use Rattle.std.proofs.Common.{◌≡◌, ◌⊎◌, ℕ, ◌++◌, ◌<◌, List, [], ◌∷◌, length, Result, Ok, Err, refl, inl, inr, ap, subst, sym, ◌∙◌, append_assoc}
+use Rattle.std.proofs.Common.{◌≡◌, ℕ, ◌++◌, List, [], Ok, Err, refl, inl, inr, ap, subst, sym, ◌∙◌, append_assoc}
 use Rattle.std.proofs.lemmas.List.{append-nil, append_cancel_left}
 use Rattle.machine_model.specs.Areas.{Bytes}
 use Rattle.machine_model.specs.Images.{MayLeave}
@@ -8,16 +8,13 @@ use Rattle.machine_model.specs.States.{DiskState}
 use Rattle.journal_bodies.specs.Numbered.{AreIn, NumberedState}
 use Rattle.journal_gates.specs.InStep.{IsInStep}
 use Rattle.journal_packets.specs.Packets.{Framed}
-use Rattle.model_archive.specs.Runs.{Outcome}
-use Rattle.model_archive.specs.Standing.{Carried}
 use Rattle.model_archive.specs.Stands.{bodies_of}
 use Rattle.model_archive.proofs.RunLemmas.{one_outcome}
-use Rattle.archive_hand.specs.Changing.{KeepsBy, LeadsBy}
+use Rattle.archive_hand.specs.Changing.{LeadsBy}
 use Rattle.archive_hand.specs.States.{ArchiveState, AreInStepBy}
 use Rattle.archive_hand.specs.Stored.{StandsBy, Store}
 use Rattle.archive_hand.proofs.ByReadsLemmas.{stands_by}
 use Rattle.model_follow.specs.Following.{Note, note_text}
-use Rattle.run_taking.specs.Following.{EndsFor}
 use Rattle.run_taking.specs.Serving.{CameOf, CarriesOut, ComesOfPacket, IsAnswered, IsCarriedOut, IsFollowing, IsShown, StoreFollows}
 use Rattle.run_taking.specs.declared.ended.Ended.{Ended}
 use Rattle.run_taking.specs.declared.ended.Ended.TheVariants as ends

@@ -1,5 +1,5 @@
 -- A run by what reads give is one of the history, and what each image has of it.
-use Rattle.std.proofs.Common.{◌≡◌, ◌⊎◌, ℕ, ◌≤◌, Bool, List, [], ◌∷◌, ◌++◌, length, map, All, None, inl, inr, refl, ap, sym, subst, ◌∙◌, arith}
+use Rattle.std.proofs.Common.{◌≡◌, ◌⊎◌, ℕ, List, [], ◌∷◌, ◌++◌, length, map, None, inl, inr, refl, ap, sym, subst, ◌∙◌, arith}
 use Rattle.std.proofs.lemmas.List.{length-map, map-append, take_all}
 use Rattle.std.proofs.lemmas.List.Elements.{All-weaker}
 use Rattle.machine_model.specs.Areas.{Bytes}
@@ -18,15 +18,15 @@ use Rattle.model_archive.specs.Legal.{IsLoadable}
 use Rattle.model_archive.specs.Plans.{live_extents}
 use Rattle.model_archive.specs.Runs.{IsAcknowledged, IsRun, Outcome, Reopens, shown_by}
 use Rattle.model_archive.specs.Standing.{AreQuiet, Carried, StandsAlong, last_state}
-use Rattle.model_archive.specs.Stands.{EachStands, Stands, bodies_of}
+use Rattle.model_archive.specs.Stands.{EachStands, Stands}
 use Rattle.model_archive.proofs.HistoryLemmas.{entry_loads, loadable-push}
 use Rattle.model_archive.proofs.HoldLemmas.{held_alike, held_push, held_with}
 use Rattle.model_archive.proofs.RunLemmas.{reopens, state_after_all}
 use Rattle.machine_model.proofs.MomentLemmas.{goes_on_joins, joined}
 use Rattle.plans_kinds.specs.Plans.{IsFitFor}
-use Rattle.archive_hand.specs.Stored.{EachStandsBy, StandsBy, Store, Stocks}
+use Rattle.archive_hand.specs.Stored.{StandsBy, Store}
 use Rattle.model_follow.specs.Following.{Follows, Note, Had, Took, length_text, note_text}
-use Rattle.run_taking.specs.Following.{ComesAfterLines, EndsAt, Followed, Ran, SpellsIn, TellsAll}
+use Rattle.run_taking.specs.Following.{ComesAfterLines, EndsAt, Followed, Ran, SpellsIn}
 use Rattle.run_taking.specs.Serving.{IsClosing, Serves, StoreFollows}
 use Rattle.run_taking.specs.declared.ended.Ended.{Ended}
 
@@ -208,7 +208,7 @@ followed_by s end old new pulls held serves =
     let outcomes = ran.outcomes in
     record {
       ran = ran_bare s end old.source new.source old.sink new.sink pulls ran;
-      goes_on = elim serves.closing as (λ _. GoesOn old.disk new.disk) [
+      goes_on = elim serves.closing [
         | inl same ↦ subst (λ (d : DiskState). GoesOn old.disk d) (sym same) serves.carried.goes_on
         | inr late ↦ goes_on_joins serves.carried.goes_on late.goes_on
       ];

@@ -1,21 +1,19 @@
 -- How a run begins, and one that ends before it begins.
-use Rattle.std.proofs.Common.{◌≡◌, ℕ, ◌+◌, ◌≤◌, false, List, [], ◌++◌, length, All, None, inl, inr, refl, ap, sym, subst, ◌∙◌, arith}
+use Rattle.std.proofs.Common.{◌≡◌, ℕ, ◌≤◌, false, List, [], None, inl, inr, refl, ap, sym, subst, ◌∙◌, arith}
 use Rattle.std.proofs.lemmas.Bool.{false≢true}
 use Rattle.std.proofs.lemmas.List.{append-nil}
 use Rattle.std.proofs.lemmas.List.Elements.{All-nil}
 use Rattle.machine_model.specs.Areas.{Bytes}
 use Rattle.machine_model.specs.Calls.{OnlyReads}
 use Rattle.machine_model.specs.Images.{MayLeave}
-use Rattle.machine_model.specs.Pulls.{Pull}
 use Rattle.machine_model.specs.States.{DiskState, MachineState, SinkState, SourceState}
 use Rattle.journal_bodies.specs.Numbered.{AreIn, NumberedState}
 use Rattle.journal_packets.specs.Packets.{IsFramed}
 use Rattle.journal_packets.specs.Reading.{PacketsState, fresh}
-use Rattle.journal_packets.specs.Streams.{stream}
 use Rattle.journal_gates.specs.Spelled.{Spells}
 use Rattle.journal_gates.proofs.InStepLemmas.{step_spells}
 use Rattle.model_archive.specs.Holding.{HoldsPlans}
-use Rattle.model_archive.specs.Standing.{Carried, last_state}
+use Rattle.model_archive.specs.Standing.{Carried}
 use Rattle.model_archive.specs.Stands.{EachStands, bodies_of}
 use Rattle.archive_hand.specs.Changing.{KeepsBy}
 use Rattle.archive_hand.specs.States.{ArchiveState, AreInStepBy}
@@ -23,7 +21,7 @@ use Rattle.archive_hand.specs.Stored.{StandsBy, Store}
 use Rattle.archive_hand.proofs.ByReadsLemmas.{keeps_reads}
 use Rattle.model_follow.specs.Following.{note_text}
 use Rattle.run_taking.specs.Following.{ComesAfterLines, EndsAt, EndsByBytes, Followed, IsLater, MayEnd, TellsAll}
-use Rattle.run_taking.specs.Serving.{IsFollowing, Serves, Serving, StoreFollows}
+use Rattle.run_taking.specs.Serving.{EndsARun, Serves, Serving}
 use Rattle.run_taking.specs.declared.ended.Ended.{Ended}
 use Rattle.run_taking.specs.declared.ended.Ended.TheVariants as ends
 use Rattle.run_taking.proofs.PacketLemmas.{in_step_read}
@@ -116,10 +114,8 @@ later_alone old new source sink disk = record {
 }
 
 -- the journal of a run is an archive's
-pub is_archive : (s : Store) (end : Ended) (old new : MachineState) (pulls : List Pull) → Serves s end old new pulls → (at : ℕ) → end ≡ ends.NotArchive at → ⊥
-is_archive s end old new pulls serves at is =
-    let ran = serves.ran in
-    subst (λ (e : Ended). EndsAt e (last_state s ran.outcomes).history (length (stream ran.carried)) (length ran.pulled) ran.ended ran.behind ran.rest) is ran.ends
+pub is_archive : (end : Ended) → EndsARun end → (at : ℕ) → end ≡ ends.NotArchive at → ⊥
+is_archive end of_run at is = subst EndsARun is of_run
 
 pub by_bytes : (end : Ended) (old new : MachineState) → MayEnd end old new → ((at : ℕ) → end ≡ ends.NotArchive at → ⊥) → EndsByBytes end old new
 by_bytes ends.Done old new may fine = λ disk source sink. inr tt

@@ -55,8 +55,8 @@ TellsAll (Packet at) = Unit {0}
 TellsAll other = ⊥
 
 -- A pull comes after the lines: what had been pulled by then is packets whose lines had been shown, and the front of one more, or nothing.
-pub record ComesAfterLines {S : Type 0} (input : SourceState) (output : SinkState) (packets : List Framed) (outcomes : List (Outcome Note S))
-    (pull : Pull) : Type 0 where
+pub record ComesAfterLines {S : Type 0} (input : SourceState) (output : SinkState) (packets : List Framed)
+    (outcomes : List (Outcome Note S)) (pull : Pull) : Type 0 where
   pub pulled : List ℕ
   pub pulled_are : input.left ≡ pulled ++ pull.left
   pub before : List Framed

@@ -18,9 +18,10 @@ use Rattle.run_taking.specs.declared.ended.Ended.TheVariants.{Conflict, Packet}
 -- Where the bytes pulled, with others behind them, are a stream of a leader that can be followed and whose history begins with the follower's: each
 -- history of the run is one with which the leader's begins; no packet is in conflict; and where one is bad, the end of the input was told inside it.
 abbrev pub RunsKeepToTheLeader : Type 0
-RunsKeepToTheLeader = (leader history : History) (end : Ended) (input input_now : SourceState) (output output_now : SinkState) (pulls : List Pull)
-    → CanBeFollowed leader → GoesOnFrom history leader → (ran : Ran Follows (λ h. h) history end input input_now output output_now pulls)
-    → (to_come : List ℕ) → IsStreamOf (bodies_of leader) (ran.pulled ++ to_come)
+RunsKeepToTheLeader = (leader history : History) (end : Ended) (input input_now : SourceState) (output output_now : SinkState)
+    (pulls : List Pull) → CanBeFollowed leader → GoesOnFrom history leader
+    → (ran : Ran Follows (λ h. h) history end input input_now output output_now pulls) → (to_come : List ℕ)
+    → IsStreamOf (bodies_of leader) (ran.pulled ++ to_come)
     → ((j : ℕ) → j ≤ length ran.outcomes → GoesOnFrom (state_after history ran.outcomes j) leader)
     × ((number place : ℕ) (kept got : Option ℕ) → end ≡ Conflict number place kept got → ⊥)
     × ((at : ℕ) → end ≡ Packet at → (ran.behind ≡ []) × (ran.ended ≡ true) × (first true ran.rest ≡ Bad))

@@ -1,5 +1,5 @@
 -- A run that follows another archive, by what reads give, while it goes on and when it has ended.
-use Rattle.std.specs.Prelude.{◌≡◌, ◌⊎◌, ℕ, Bool, true, List, [], ◌∷◌, ◌++◌, ◌+◌, length, map, All, Option, Some, None, Result, Ok, Err, IsTrue}
+use Rattle.std.specs.Prelude.{◌≡◌, ◌⊎◌, ℕ, true, List, [], ◌∷◌, ◌++◌, ◌+◌, length, map, All, Option, Some, None, Result, Ok, Err, IsTrue}
 use Rattle.machine_model.specs.Areas.{Both}
 use Rattle.machine_model.specs.Moments.{GoesOn, LeavesOnly}
 use Rattle.machine_model.specs.Pulls.{Pull}
@@ -26,6 +26,13 @@ use Rattle.model_follow.specs.Following.{DiffersAt, Follows, IsBeyond, Note, not
 use Rattle.run_taking.specs.Following.{ComesAfterLines, EndsFor, Ran, TellsAll}
 use Rattle.run_taking.specs.declared.ended.Ended.{Ended}
 use Rattle.run_taking.specs.declared.ended.Ended.TheVariants as ends
+
+-- ---- ends
+
+-- the ends of a run over packets: the journal was an archive's before
+abbrev pub EndsARun : Ended → Type 0
+EndsARun (ends.NotArchive at) = ⊥
+EndsARun other = Unit {0}
 
 -- ---- reading
 
@@ -88,25 +95,11 @@ pub record IsFollowing (d : DiskState) (archive : ArchiveState) (numbered : Numb
 abbrev pub StoreFollows : Store → Framed → Note → Store → Type 0
 StoreFollows store p note next = Follows store.history p note next.history × Stocks store next
 
--- What came of a packet whose first byte has this place in the input, with the line on the page; or how the run ends. Where it ends for the packet, or
--- for want of memory, nothing came of it; where the disk failed, it may have been carried out.
-abbrev pub CameOf : Store → ℕ → Framed → Result (Unit {0}) Ended → DiskState → DiskState → ArchiveState → NumberedState → List ℕ → Type 0
-CameOf store at p (Ok done) old new archive_now numbered page = (note : Note) × (next : Store) × StoreFollows store p note next
-    × LeadsBy store next old new × IsFollowing new archive_now numbered next × (page ≡ note_text note)
-CameOf store at p (Err ends.Disk) old new archive_now numbered page = KeepsBy store old new
-    ⊎ ((note : Note) × (next : Store) × StoreFollows store p note next × LeadsBy store next old new)
-CameOf store at p (Err end) old new archive_now numbered page = KeepsBy store old new × EndsFor store.history at p end
-
 -- the ends that come where the entry of a packet can't be read
 abbrev pub ComesOfReading : Ended → Type 0
 ComesOfReading ends.Disk = Unit {0}
 ComesOfReading ends.Memory = Unit {0}
 ComesOfReading other = ⊥
-
--- an end behind the load: the journal is an archive's
-abbrev pub IsBehindLoad : Ended → Type 0
-IsBehindLoad (ends.NotArchive at) = ⊥
-IsBehindLoad other = Unit {0}
 
 -- the ends that come of a packet before its line is shown
 abbrev pub ComesOfPacket : Ended → Type 0
@@ -117,9 +110,18 @@ ComesOfPacket (ends.Conflict number place kept got) = Unit {0}
 ComesOfPacket (ends.Packet at) = Unit {0}
 ComesOfPacket other = ⊥
 
+-- What came of a packet whose first byte has this place in the input, with the line on the page; or how the run ends. Where it ends for the packet, or
+-- for want of memory, nothing came of it; where the disk failed, it may have been carried out.
+abbrev pub CameOf : Store → ℕ → Framed → Result (Unit {0}) Ended → DiskState → DiskState → ArchiveState → NumberedState → List ℕ → Type 0
+CameOf store at p (Ok done) old new archive_now numbered page = (note : Note) × (next : Store) × StoreFollows store p note next
+    × LeadsBy store next old new × IsFollowing new archive_now numbered next × (page ≡ note_text note)
+CameOf store at p (Err ends.Disk) old new archive_now numbered page = KeepsBy store old new
+    ⊎ ((note : Note) × (next : Store) × StoreFollows store p note next × LeadsBy store next old new)
+CameOf store at p (Err end) old new archive_now numbered page = KeepsBy store old new × EndsFor store.history at p end
+
 -- a record of the same
-pub record IsAnswered (store : Store) (at : ℕ) (p : Framed) (result : Result (Unit {0}) Ended) (old new : DiskState) (archive_now : ArchiveState)
-    (numbered : NumberedState) (page : List ℕ) : Type 0 where
+pub record IsAnswered (store : Store) (at : ℕ) (p : Framed) (result : Result (Unit {0}) Ended) (old new : DiskState)
+    (archive_now : ArchiveState) (numbered : NumberedState) (page : List ℕ) : Type 0 where
   pub came : CameOf store at p result old new archive_now numbered page
 
 -- A packet has an outcome, and this was shown of its line; each image left since, with what was shown of it then, is as before it or after it.
@@ -132,8 +134,8 @@ pub record IsShown (store : Store) (p : Framed) (before after : List ℕ) (old n
   pub front : IsPrefix shown (note_text outcome.reply)
 
 -- A packet was carried out and its line shown, or it ended the run.
-abbrev pub CarriesOut : Store → ℕ → Framed → Result (Unit {0}) Ended → List ℕ → List ℕ → DiskState → DiskState → ArchiveState → NumberedState
-    → Type 0
+abbrev pub CarriesOut : Store → ℕ → Framed → Result (Unit {0}) Ended → List ℕ → List ℕ → DiskState → DiskState → ArchiveState
+    → NumberedState → Type 0
 CarriesOut store at p (Ok done) before after old new archive_now numbered = (is : IsShown store p before after old new)
     × (is.shown ≡ note_text is.outcome.reply) × IsFollowing new archive_now numbered is.outcome.next
 CarriesOut store at p (Err ends.Sink) before after old new archive_now numbered = IsShown store p before after old new
@@ -143,8 +145,8 @@ CarriesOut store at p (Err end) before after old new archive_now numbered = (Kee
     × EndsFor store.history at p end
 
 -- a record of the same
-pub record IsCarriedOut (store : Store) (at : ℕ) (p : Framed) (result : Result (Unit {0}) Ended) (before after : List ℕ) (old new : DiskState)
-    (archive_now : ArchiveState) (numbered : NumberedState) : Type 0 where
+pub record IsCarriedOut (store : Store) (at : ℕ) (p : Framed) (result : Result (Unit {0}) Ended) (before after : List ℕ)
+    (old new : DiskState) (archive_now : ArchiveState) (numbered : NumberedState) : Type 0 where
   pub came : CarriesOut store at p result before after old new archive_now numbered
 
 -- ---- the run

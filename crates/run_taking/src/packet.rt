@@ -66,7 +66,8 @@ fn take_next<D: Disk>(
     ensures cause { IfErr result (λ end. ComesOfPacket end) }
     ensures ready { OnOk result (CanGoOn (D.disk disk.new).reach archive.new bodies.new) }
     // Where its number comes next, it is taken, or how the run ends says why not.
-    ensures came { D.disk_tells → (s : Store) → IsFollowing (D.disk disk.old) archive.old bodies.old s → packet.now.number ≡ length s.history + 1
+    ensures came { D.disk_tells → (s : Store) → IsFollowing (D.disk disk.old) archive.old bodies.old s
+        → packet.now.number ≡ length s.history + 1
         → IsAnswered s packet.now.at (framed packet.now) result (D.disk disk.old) (D.disk disk.new) archive.new bodies.new
         (note_text (Took packet.now.number)) }
 {

@@ -4,7 +4,7 @@ ghost use Rattle.machine_model.specs.States.{state_by};
 ghost use Rattle.journal_packets.specs.Packets.{IsFramed, framed};
 ghost use Rattle.journal_packets.specs.Reading.{IsAwaited};
 ghost use Rattle.run_taking.specs.Following.{MayEnd};
-ghost use Rattle.run_taking.specs.Serving.{Gives, IsBehindLoad, end_by, pulls_beside};
+ghost use Rattle.run_taking.specs.Serving.{EndsARun, Gives, end_by, pulls_beside};
 
 use crate::ended::Ended;
 use journal_packets::{Packet, PacketError, Packets};
@@ -22,7 +22,7 @@ pub(crate) fn next_packet<M: Machine>(
     ensures later { (M.source machine.old).faults ≤ (M.source machine.new).faults }
     ensures cause { IfErr result (λ end. MayEnd end (state_by M.source M.sink M.disk machine.old)
         (state_by M.source M.sink M.disk machine.new)) }
-    ensures loaded { IfErr result (λ end. IsBehindLoad end) }
+    ensures ends { IfErr result (λ end. EndsARun end) }
     ensures proper { IfOk result (λ packet. IsFramed (framed packet)) }
     ensures nearer { OnOk result (reader.old.passed < reader.new.passed) }
     ensures bound { reader.new.passed ≤ 2 ^ 40 }
@@ -40,7 +40,8 @@ pub(crate) fn next_packet<M: Machine>(
 
 /// How a run ends where the reader has no next packet.
 fn ended_by(error: PacketError) -> Ended
-    ensures { result ≡ end_by error }
+    ensures value { result ≡ end_by error }
+    ensures ends { EndsARun result }
 {
     match error {
         PacketError::Bad { at } => Ended::Packet { at },

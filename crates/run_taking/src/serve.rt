@@ -5,7 +5,7 @@ ghost use Rattle.machine_model.specs.States.{MachineState, state_by};
 ghost use Rattle.journal_packets.specs.Packets.{IsFramed, framed};
 ghost use Rattle.archive_hand.specs.Stored.{Store};
 ghost use Rattle.run_taking.specs.Following.{IsLater, MayEnd};
-ghost use Rattle.run_taking.specs.Serving.{CanGoOn, HasGoneOver, IsBehindLoad, IsCarriedOut, IsFollowing, Serves, Serving};
+ghost use Rattle.run_taking.specs.Serving.{CanGoOn, EndsARun, HasGoneOver, IsCarriedOut, IsFollowing, Serves, Serving};
 
 use crate::ended::Ended;
 use crate::packet::answer;
@@ -33,8 +33,8 @@ fn carry_out<M: Machine>(
     ensures later { IsLater (state_by M.source M.sink M.disk machine.old) (state_by M.source M.sink M.disk machine.new) }
     ensures cause { IfErr result (λ end. MayEnd end (state_by M.source M.sink M.disk machine.old)
         (state_by M.source M.sink M.disk machine.new)) }
+    ensures ends { IfErr result (λ end. EndsARun end) }
     ensures undone { IfErr result (λ end. end ≡ Ended.Done → ⊥) }
-    ensures loaded { IfErr result (λ end. IsBehindLoad end) }
     ensures ready { OnOk result (CanGoOn (M.disk machine.new).reach archive.new bodies.new) }
     ensures came { M.disk_tells → M.sink_tells → (s : Store) → IsFollowing (M.disk machine.old) archive.old bodies.old s
         → IsCarriedOut s packet.now.at (framed packet.now) result (M.sink machine.old).shown (M.sink machine.new).shown
@@ -64,7 +64,7 @@ fn step<M: Machine>(
     ensures later { IsLater (state_by M.source M.sink M.disk machine.old) (state_by M.source M.sink M.disk machine.new) }
     ensures cause { IfErr result (λ end. MayEnd end (state_by M.source M.sink M.disk machine.old)
         (state_by M.source M.sink M.disk machine.new)) }
-    ensures loaded { IfErr result (λ end. IsBehindLoad end) }
+    ensures ends { IfErr result (λ end. EndsARun end) }
     ensures ready { OnOk result (CanGoOn (M.disk machine.new).reach archive.new bodies.new) }
     ensures nearer { OnOk result (reader.old.passed < reader.new.passed) }
     ensures bound { reader.new.passed ≤ 2 ^ 40 }
@@ -87,7 +87,7 @@ fn close<M: Machine>(machine: &mut M, bodies: &NumberedBodies, page: &mut ReplyP
     ensures asked { M.asked machine.old [] machine.new }
     ensures later { IsLater (state_by M.source M.sink M.disk machine.old) (state_by M.source M.sink M.disk machine.new) }
     ensures cause { MayEnd result (state_by M.source M.sink M.disk machine.old) (state_by M.source M.sink M.disk machine.new) }
-    ensures loaded { IsBehindLoad result }
+    ensures ends { EndsARun result }
     ensures closed { M.sink_tells → M.disk_tells → (s : Store) (began : MachineState) (archive : _) (held : _) (pulls : List Pull) →
         HasGoneOver s Ended.Done began (state_by M.source M.sink M.disk machine.old) archive held bodies.now pulls
         → Serves s result began (state_by M.source M.sink M.disk machine.new) pulls }
@@ -111,7 +111,7 @@ pub(crate) fn serve<M: Machine>(
     requires ready { CanGoOn (M.disk machine.old).reach archive.old bodies.old }
     ensures later { IsLater (state_by M.source M.sink M.disk machine.old) (state_by M.source M.sink M.disk machine.new) }
     ensures cause { MayEnd result (state_by M.source M.sink M.disk machine.old) (state_by M.source M.sink M.disk machine.new) }
-    ensures loaded { IsBehindLoad result }
+    ensures ends { EndsARun result }
     ensures served { M.source_tells → M.sink_tells → M.disk_tells → (s : Store) (began : MachineState) →
         Serving s began (state_by M.source M.sink M.disk machine.old) archive.old reader.old bodies.old [] →
         (pulls : List Pull) × M.asked machine.old pulls machine.new

@@ -1,20 +1,17 @@
 use Rattle.std.proofs.Common.{◌≡◌, List, [], None, Err, refl, ap, ◌∙◌}
 use Rattle.machine_model.specs.Pulls.{Pull}
 use Rattle.machine_model.specs.States.{MachineState, state_by}
-use Rattle.journal_bodies.specs.Numbered.{AreIn}
-use Rattle.journal_gates.specs.Records.{front}
 use Rattle.model_archive.specs.Stands.{bodies_of}
 use Rattle.archive_hand.specs.States.{AreInStepBy}
 use Rattle.archive_hand.specs.Stored.{Store}
 use Rattle.run_taking.specs.Following.{Followed}
 use Rattle.run_taking.specs.Serving.{Serves, Serving}
-use Rattle.run_taking.specs.declared.ended.Ended.{Ended}
 use Rattle.run_taking.specs.declared.ended.Ended.TheVariants.{Disk, Memory}
-use Rattle.run_taking.proofs.EndLemmas.{may_end_later, never_no_archive}
+use Rattle.run_taking.proofs.EndLemmas.{may_end_later}
 use Rattle.run_taking.proofs.StartLemmas.{by_bytes, followed_none, held_by, is_archive, later_alone, serving_start, spelled_now}
 use Rattle.run_taking.proofs.StandLemmas.{followed_by}
 use Rattle.run_taking.proofs.following.follow.Given.{Over}
-use Rattle.run_taking.proofs.following.follow.Goals.{After-of, After-serve, Start}
+use Rattle.run_taking.proofs.following.follow.Goals.{After-serve, In-Err-NotJournal, Start}
 use Rattle.run_taking.proofs.following.follow.Goals as goal
 
 -- the run ended before the bodies were found
@@ -57,19 +54,21 @@ returns-in-Err-Memory-clause-followed g c = λ source_tells sink_tells disk_tell
     )
 
 -- the loaded journal goes on to be an archive's
-pub returns-in-Err-NotJournal-clause-followed : goal.returns-in-Err-NotJournal-clause-followed
-returns-in-Err-NotJournal-clause-followed g c = λ source_tells sink_tells disk_tells s in_step idle.
+refused : (g : Over) (c : In-Err-NotJournal g) → g.M.Disk.disk_tells → (s : Store) → AreInStepBy (g.M.Disk.disk c.args.machine.now) c.args.archive.now s → ⊥
+refused g c disk_tells s in_step =
     let m = c.args.machine.now in
     let d = g.M.Disk.disk m in
-    absurd (c.of.ensures.never disk_tells (bodies_of s.history) (spelled_now d c.args.archive.now s (g.met.M.Disk.holds_allowed m disk_tells) in_step) (c.journal.ensures ∙ in_step.journal.end_is) c.in-Err-NotJournal.at
-    (c.in-Err-NotJournal.is ∙ ap Err c.in-Err-NotJournal.field-0-is))
+    c.of.ensures.never disk_tells (bodies_of s.history) (spelled_now d c.args.archive.now s (g.met.M.Disk.holds_allowed m disk_tells) in_step) (c.journal.ensures ∙ in_step.journal.end_is) c.in-Err-NotJournal.at
+    (c.in-Err-NotJournal.is ∙ ap Err c.in-Err-NotJournal.field-0-is)
+
+pub returns-in-Err-NotJournal-clause-followed : goal.returns-in-Err-NotJournal-clause-followed
+returns-in-Err-NotJournal-clause-followed g c = λ source_tells sink_tells disk_tells s in_step idle. absurd (refused g (goal.at.returns-in-Err-NotJournal-clause-followed g c).In-Err-NotJournal disk_tells s in_step)
 
 pub returns-in-Err-NotJournal-clause-ends : goal.returns-in-Err-NotJournal-clause-ends
-returns-in-Err-NotJournal-clause-ends g c = λ source_tells sink_tells disk_tells s in_step idle.
-    let m = c.args.machine.now in
-    let d = g.M.Disk.disk m in
-    absurd (c.of.ensures.never disk_tells (bodies_of s.history) (spelled_now d c.args.archive.now s (g.met.M.Disk.holds_allowed m disk_tells) in_step) (c.journal.ensures ∙ in_step.journal.end_is) c.in-Err-NotJournal.at
-    (c.in-Err-NotJournal.is ∙ ap Err c.in-Err-NotJournal.field-0-is))
+returns-in-Err-NotJournal-clause-ends g c = λ source_tells sink_tells disk_tells s in_step idle. absurd (refused g (goal.at.returns-in-Err-NotJournal-clause-ends g c).In-Err-NotJournal disk_tells s in_step)
+
+pub returns-in-Err-NotJournal-clause-fair : goal.returns-in-Err-NotJournal-clause-fair
+returns-in-Err-NotJournal-clause-fair g c = λ disk_tells s in_step at is. refused g (goal.at.returns-in-Err-NotJournal-clause-fair g c).In-Err-NotJournal disk_tells s in_step
 
 -- the run over the packets
 served : (g : Over) (c : After-serve g) (source_tells : g.M.Source.source_tells) (sink_tells : g.M.Sink.sink_tells) (disk_tells : g.M.Disk.disk_tells) (s : Store) → AreInStepBy (g.M.Disk.disk c.args.machine.now) c.args.archive.now s → s.job ≡ None
@@ -104,15 +103,8 @@ returns-clause-ends g c = λ source_tells sink_tells disk_tells s in_step idle.
     let mid : MachineState = state_by g.M.Source.source g.M.Sink.sink g.M.Disk.disk n in
     let new : MachineState = state_by g.M.Source.source g.M.Sink.sink g.M.Disk.disk c.serve.new.machine in
     let alone = g.met.M.Machine.disk_alone m n c.of.ensures.only in
-    let made = served g (goal.at.returns-clause-ends g c).After-serve source_tells sink_tells disk_tells s in_step idle in
     by_bytes c.serve.result old new (may_end_later c.serve.result old mid new (later_alone old mid alone.0 alone.1 (g.met.M.Disk.only_faults m n c.of.ensures.only)) c.serve.ensures.cause)
-    (is_archive s c.serve.result old new made.0 made.2)
-
-pub returns-in-Err-NotJournal-clause-fair : goal.returns-in-Err-NotJournal-clause-fair
-returns-in-Err-NotJournal-clause-fair g c = λ disk_tells s in_step at is.
-    let m = c.args.machine.now in
-    absurd (c.of.ensures.never disk_tells (bodies_of s.history) (spelled_now (g.M.Disk.disk m) c.args.archive.now s (g.met.M.Disk.holds_allowed m disk_tells) in_step) (c.journal.ensures ∙ in_step.journal.end_is) c.in-Err-NotJournal.at
-    (c.in-Err-NotJournal.is ∙ ap Err c.in-Err-NotJournal.field-0-is))
+    (is_archive c.serve.result c.serve.ensures.ends)
 
 pub returns-clause-fair : goal.returns-clause-fair
-returns-clause-fair g c = λ disk_tells s in_step at is. never_no_archive c.serve.result at c.serve.ensures.loaded is
+returns-clause-fair g c = λ disk_tells s in_step. is_archive c.serve.result c.serve.ensures.ends

@@ -1,6 +1,5 @@
-use Rattle.std.proofs.Common.{ap, sym, ◌∙◌}
+use Rattle.std.proofs.Common.{◌∙◌}
 use Rattle.journal_packets.specs.Packets.{framed}
-use Rattle.model_follow.specs.Following.{Took, note_text}
 use Rattle.run_taking.proofs.PacketLemmas.{as_many, came_behind, conflict_by, gap_by, had_by, read_on, unread_by}
 use Rattle.run_taking.proofs.packet.answer.Goals as goal
 

@@ -1,5 +1,5 @@
 use Rattle.std.proofs.Common.{◌≡◌, ◌+◌, length, Err, inl, ap, sym, ◌∙◌}
-use Rattle.journal_gates.specs.Records.{first_gate, front}
+use Rattle.journal_gates.specs.Records.{front}
 use Rattle.journal_packets.specs.Packets.{framed}
 use Rattle.model_archive.specs.Stands.{bodies_of}
 use Rattle.archive_hand.proofs.ByReadsLemmas.{keeps_nowhere}

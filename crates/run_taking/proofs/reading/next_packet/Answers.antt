@@ -4,7 +4,6 @@ use Rattle.journal_packets.specs.declared.packet.Packet.{Packet}
 use Rattle.run_taking.specs.Serving.{Gives, next_by, pulls_beside}
 use Rattle.run_taking.specs.declared.ended.Ended.{Ended}
 use Rattle.run_taking.specs.declared.ended.Ended.TheVariants.{Done}
-use Rattle.run_taking.proofs.EndLemmas.{reader_behind_load}
 use Rattle.run_taking.proofs.reading.next_packet.Given.{Over}
 use Rattle.run_taking.proofs.reading.next_packet.Goals.{After-next_packet}
 use Rattle.run_taking.proofs.reading.next_packet.Goals as goal
@@ -31,7 +30,7 @@ pub returns-in-Ok-None-clause-gives : goal.returns-in-Ok-None-clause-gives
 returns-in-Ok-None-clause-gives g c = given g (goal.at.returns-in-Ok-None-clause-gives g c).After-next_packet (Err Done) (ap next_by (sym (c.in-Ok-None.is ∙ ap Ok c.in-Ok-None.field-0-is)))
 
 pub returns-in-Err-clause-gives : goal.returns-in-Err-clause-gives
-returns-in-Err-clause-gives g c = given g (goal.at.returns-in-Err-clause-gives g c).After-next_packet _ (ap Err c.ended_by.ensures ∙ ap next_by (sym c.in-Err.is))
+returns-in-Err-clause-gives g c = given g (goal.at.returns-in-Err-clause-gives g c).After-next_packet _ (ap Err c.ended_by.ensures.value ∙ ap next_by (sym c.in-Err.is))
 
 pub returns-in-Ok-Some-clause-asked : goal.returns-in-Ok-Some-clause-asked
 returns-in-Ok-Some-clause-asked g c = asked g (goal.at.returns-in-Ok-Some-clause-asked g c).After-next_packet
@@ -41,6 +40,3 @@ returns-in-Ok-None-clause-asked g c = asked g (goal.at.returns-in-Ok-None-clause
 
 pub returns-in-Err-clause-asked : goal.returns-in-Err-clause-asked
 returns-in-Err-clause-asked g c = asked g (goal.at.returns-in-Err-clause-asked g c).After-next_packet
-
-pub returns-in-Err-clause-loaded : goal.returns-in-Err-clause-loaded
-returns-in-Err-clause-loaded g c = reader_behind_load _ _ c.ended_by.ensures

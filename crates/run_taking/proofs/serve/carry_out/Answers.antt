@@ -1,6 +1,5 @@
-use Rattle.std.proofs.Common.{[], Ok, Err, ap, sym, ◌∙◌}
+use Rattle.std.proofs.Common.{[], ap, sym, ◌∙◌}
 use Rattle.machine_model.specs.States.{SinkState}
-use Rattle.run_taking.proofs.EndLemmas.{packet_behind_load}
 use Rattle.run_taking.proofs.ShownLemmas.{cut_short, shown_part, shown_whole}
 use Rattle.run_taking.proofs.serve.carry_out.Given.{Over}
 use Rattle.run_taking.proofs.serve.carry_out.Goals.{After-show}
@@ -46,6 +45,3 @@ returns-in-Err-show-clause-came g c = λ disk_tells sink_tells s following.
     rw shown at (shown_part s c.args.packet.now.at _ (g.M.Sink.sink mid).shown (g.M.Sink.sink last).shown (g.M.Disk.disk c.args.machine.now) (g.M.Disk.disk mid) (g.M.Disk.disk last) c.answer.new.archive c.answer.new.bodies c.as_bytes.result.now
     (rw (← c.as_bytes.ensures) at (c.in-Ok.ensures.came disk_tells s following)) (m.beside_shown c.args.machine.now sink_tells disk_tells ∙ sym shown)
     (m.shows mid last sink_tells disk_tells c.show.ensures.only) (c.show.ensures.front sink_tells))
-
-pub returns-in-Err-clause-loaded : goal.returns-in-Err-clause-loaded
-returns-in-Err-clause-loaded g c = packet_behind_load c.in-Err.end c.in-Err.ensures.cause

@@ -1,14 +1,11 @@
-use Rattle.std.proofs.Common.{List, [], ◌++◌, Ok, Err, refl}
+use Rattle.std.proofs.Common.{[], Ok}
 use Rattle.std.proofs.lemmas.List.{append-nil}
-use Rattle.machine_model.specs.Pulls.{Pull}
-use Rattle.machine_model.specs.States.{DiskState, MachineState, state_by}
+use Rattle.machine_model.specs.States.{MachineState, state_by}
 use Rattle.model_archive.specs.Standing.{last_state}
-use Rattle.archive_hand.specs.Stored.{Store}
-use Rattle.run_taking.specs.Serving.{CanGoOn, Gives, Serving, pulls_beside}
-use Rattle.run_taking.proofs.EndLemmas.{later_joins, may_end_later}
+use Rattle.run_taking.specs.Serving.{Gives, Serving, pulls_beside}
 use Rattle.run_taking.proofs.ServeLemmas.{ended_by, went_on}
 use Rattle.run_taking.proofs.serve.step.Given.{Over}
-use Rattle.run_taking.proofs.serve.step.Goals.{After-carry_out, After-next_packet}
+use Rattle.run_taking.proofs.serve.step.Goals.{After-next_packet}
 use Rattle.run_taking.proofs.serve.step.Goals as goal
 
 -- what is so of the machine is so where the next packet was taken, but for its source
