@@ -16,8 +16,8 @@ returns c = λ h stands.
     let good = rw (c.deref-2.ensures.value, c.as_slice.ensures) at c.in_ok-good.ensures in
     elim c.if-good.branch [
       | then-good w ↦ rw w.result-is (found h c.args.plan.now c.in_ok-list.list.items c.requires.ranges
-        (λ after. false≢true (sym c.if-is_late.false ∙ (c.is_late.ensures h stands).1 after))
-        (λ before. false≢true (sym c.if-is_before_live.false ∙ (c.is_before_live.ensures h stands).1 before))
-        listed some (good.0 w.if-good.true))
+          (λ after. false≢true (sym c.if-is_late.false ∙ (c.is_late.ensures h stands).1 after))
+          (λ before. false≢true (sym c.if-is_before_live.false ∙ (c.is_before_live.ensures h stands).1 before))
+          listed some (good.0 w.if-good.true))
       | else-good w ↦ rw w.result-is (not_good h c.args.plan.now c.in_ok-list.list.items listed (λ is. false≢true (sym w.if-good.false ∙ good.1 is)))
     ]
