@@ -21,7 +21,7 @@ pub fn expect_line(
 }
 
 /// A script whose run ends at a damaged sublist.
-#[derive(Clone, Copy)]
+#[derive(Clone, Copy, Debug)]
 pub struct Damaged<'a> {
     /// The whole input.
     pub script: &'a [u8],

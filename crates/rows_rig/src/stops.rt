@@ -3,8 +3,7 @@ ghost use Rattle.std.specs.Prelude.{IfOk};
 ghost use Rattle.machine_mem.specs.Meaning.{after_calls};
 ghost use Rattle.machine_mem.specs.Picks.{IsPicked};
 
-use crate::RowError;
-use crate::machines::count_entries;
+use crate::{RowError, load_entries};
 use machine_mem::{Fill, MemMachine, Pick, Picked, Tail};
 use machine_model::Image;
 use std::alloc::Global;
@@ -98,7 +97,8 @@ pub fn pick_entries(
     tail: Tail,
 ) -> Result<u64, RowError> {
     let picked = pick_image(alloc, machine, moment, tail)?;
-    count_entries(alloc, picked.image)
+    let (_, entries) = load_entries(alloc, picked.image)?;
+    Ok(entries)
 }
 
 /// Each image in `TAILS` that a stop may leave at a moment has at least and at most so many entries.

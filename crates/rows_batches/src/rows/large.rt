@@ -119,7 +119,8 @@ fn texts_that_are_too_long_come_before_the_line(rt: HostRuntime) -> Result<(), R
             b"\n",
         ],
     )?;
-    expect_long(alloc, &script)
+    expect_long(alloc, &script)?;
+    Ok(())
 }
 
 // Together they are within the limit.
