@@ -89,6 +89,7 @@ fn lies_at<R: Files>(rt: &R, file: &R::File, name: &str) -> Result<(), OpenError
 #[cfg(test)]
 mod tests {
     use super::*;
+    use std::process::Abort;
 
     /// A file of which somebody else holds such a lock, or none.
     #[derive(Drop)]
@@ -112,20 +113,31 @@ mod tests {
         }
     }
 
+    /// The lock that somebody else holds, and what comes of asking for the file alone and shared.
+    type Row = (Option<Hold>, Result<(), OpenError>, Result<(), OpenError>);
+
+    /// Each hold of somebody else, and none.
+    const ROWS: [Row; 3] = [
+        (None, Ok(()), Ok(())),
+        (Some(Hold::Shared), Err(OpenError::Held), Ok(())),
+        (
+            Some(Hold::Alone),
+            Err(OpenError::Held),
+            Err(OpenError::Held),
+        ),
+    ];
+
+    /// A file that somebody else holds so is taken, or isn't.
+    fn expect_taken(rt: &impl Abort, (lock, alone, shared): Row) {
+        let other = Other { lock };
+        let found = (take(&other, Hold::Alone), take(&other, Hold::Shared));
+        assert_eq!(rt; found, (alone, shared));
+    }
+
     #[test]
     fn each_hold_asks_for_its_own_lock(rt: HostRuntime) {
-        for (lock, alone, shared) in [
-            (None, Ok(()), Ok(())),
-            (Some(Hold::Shared), Err(OpenError::Held), Ok(())),
-            (
-                Some(Hold::Alone),
-                Err(OpenError::Held),
-                Err(OpenError::Held),
-            ),
-        ] {
-            let other = Other { lock };
-            assert_eq!(rt; take(&other, Hold::Alone), alone);
-            assert_eq!(rt; take(&other, Hold::Shared), shared);
+        for row in &ROWS {
+            expect_taken(&rt, *row);
         }
     }
 }

@@ -203,9 +203,11 @@ impl fmt::Display for Line {
 #[cfg(test)]
 mod tests {
     use super::*;
+    use machine_model::Area::{Journal, Pages};
+    use std::alloc::Global;
     use std::cell::RefCell;
     use std::io;
-    use std::test::Fail;
+    use std::process::Abort;
 
     /// A clock that stands until it is set, or fails.
     #[derive(Drop)]
@@ -294,96 +296,140 @@ mod tests {
         }
     }
 
-    #[test]
-    fn a_line_comes_each_second_of_work(rt: HostRuntime) -> Result<(), Fail> {
-        use Area::{Journal, Pages};
-        use Call::{Pulls, Reads, Writes};
-        let hand = Hand::at(0);
-        let paper = Paper::new(String::new(rt.alloc()), true);
-        let progress = Progress::new("tt_archive", &hand, &paper);
+    /// Calls, and what is written of them.
+    struct Story {
+        is_terminal: bool,
+        /// The milliseconds that the clock shows, where it doesn't fail; a call then; and what is written.
+        calls: &'static [(Option<u64>, Call, &'static str)],
+        /// What is written once the progress is dropped.
+        last: &'static str,
+    }
+
+    /// What was written since this was asked last.
+    fn expect_written(rt: &impl Abort, alloc: Global, paper: &Paper, wanted: &str) {
+        let written = paper.taken(String::new(alloc));
+        assert_eq!(rt; written.as_deref(), Some(wanted));
+    }
+
+    /// A call at a time is told so.
+    fn expect_call<C: Clock, E: Eprint>(
+        rt: &impl Abort,
+        alloc: Global,
+        hand: &Hand,
+        paper: &Paper,
+        progress: &Progress<C, E>,
+        (millis, call, wanted): (Option<u64>, Call, &str),
+    ) {
+        hand.millis.set(millis);
+        makes(progress, call);
+        expect_written(rt, alloc, paper, wanted);
+    }
+
+    /// The calls of a story are told so, by a progress that is dropped behind them.
+    fn expect_calls(rt: &impl Abort, alloc: Global, hand: &Hand, paper: &Paper, story: &Story) {
+        let progress = Progress::new("tt_archive", hand, paper);
         progress.reaches(200);
-        for (millis, call, line) in [
-            (5_000, Reads(Journal, 0), ""),
-            (5_999, Reads(Journal, 90), ""),
+        for call in story.calls {
+            expect_call(rt, alloc, hand, paper, &progress, *call);
+        }
+    }
+
+    /// A story is told so, and the clock is asked where there is a terminal.
+    fn expect_story(rt: &impl Abort, alloc: Global, story: &Story) {
+        let hand = Hand::at(0);
+        let paper = Paper::new(String::new(alloc), story.is_terminal);
+        expect_calls(rt, alloc, &hand, &paper, story);
+        expect_written(rt, alloc, &paper, story.last);
+        assert_eq!(rt; hand.asked.get(), story.is_terminal);
+    }
+
+    /// A line comes after each second, and goes before each pull.
+    const SECONDS: Story = Story {
+        is_terminal: true,
+        calls: &[
+            (Some(5_000), Call::Reads(Journal, 0), ""),
+            (Some(5_999), Call::Reads(Journal, 90), ""),
             (
-                6_000,
-                Reads(Journal, 90),
+                Some(6_000),
+                Call::Reads(Journal, 90),
                 "\r\x1b[Ktt_archive: reading the journal, 50 %",
             ),
-            (6_999, Reads(Journal, 150), ""),
+            (Some(6_999), Call::Reads(Journal, 150), ""),
             (
-                7_500,
-                Reads(Journal, 170),
+                Some(7_500),
+                Call::Reads(Journal, 170),
                 "\r\x1b[Ktt_archive: reading the journal, 90 %",
             ),
             (
-                7_600,
-                Reads(Journal, 190),
+                Some(7_600),
+                Call::Reads(Journal, 190),
                 "\r\x1b[Ktt_archive: reading the journal, 100 %",
             ),
-            (8_499, Reads(Pages, 4_096), ""),
+            (Some(8_499), Call::Reads(Pages, 4_096), ""),
             (
-                8_500,
-                Reads(Pages, 0),
+                Some(8_500),
+                Call::Reads(Pages, 0),
                 "\r\x1b[Ktt_archive: reading the pages, 20 bytes",
             ),
-            (8_600, Pulls, "\r\x1b[K"),
-            (60_000, Pulls, ""),
-            (61_000, Writes(Journal, 7), ""),
-            (61_500, Writes(Pages, 4_096), ""),
+            (Some(8_600), Call::Pulls, "\r\x1b[K"),
+            (Some(60_000), Call::Pulls, ""),
+            (Some(61_000), Call::Writes(Journal, 7), ""),
+            (Some(61_500), Call::Writes(Pages, 4_096), ""),
             (
-                62_000,
-                Writes(Journal, 240),
+                Some(62_000),
+                Call::Writes(Journal, 240),
                 "\r\x1b[Ktt_archive: writing the journal, 250 bytes",
             ),
             (
-                63_000,
-                Writes(Pages, 8_192),
+                Some(63_000),
+                Call::Writes(Pages, 8_192),
                 "\r\x1b[Ktt_archive: writing the pages, 20 bytes",
             ),
-            (63_200, Pulls, "\r\x1b[K"),
-            (63_500, Reads(Journal, 240), ""),
+            (Some(63_200), Call::Pulls, "\r\x1b[K"),
+            (Some(63_500), Call::Reads(Journal, 240), ""),
             (
-                64_500,
-                Reads(Journal, 90),
+                Some(64_500),
+                Call::Reads(Journal, 90),
                 "\r\x1b[Ktt_archive: reading the journal, 40 %",
             ),
-        ] {
-            hand.millis.set(Some(millis));
-            makes(&progress, call);
-            let written = paper.taken(String::new(rt.alloc()));
-            assert_eq!(rt; written.as_deref(), Some(line), "at {millis}");
-        }
-        drop(progress);
-        let written = paper.taken(String::new(rt.alloc()));
-        assert_eq!(rt; written.as_deref(), Some("\r\x1b[K"));
-        Ok(())
-    }
+        ],
+        last: "\r\x1b[K",
+    };
 
     #[test]
-    fn nothing_is_asked_without_a_terminal(rt: HostRuntime) -> Result<(), Fail> {
-        let hand = Hand::at(0);
-        let paper = Paper::new(String::new(rt.alloc()), false);
-        let progress = Progress::new("tt_archive", &hand, &paper);
-        for millis in [0, 5_000] {
-            hand.millis.set(Some(millis));
-            progress.reads(Area::Journal, 0, 10);
-        }
-        assert!(rt; !hand.asked.get());
-        Ok(())
+    fn a_line_comes_each_second_of_work(rt: HostRuntime) {
+        expect_story(&rt, rt.alloc(), &SECONDS);
     }
 
+    /// Standard error is no terminal.
+    const NO_TERMINAL: Story = Story {
+        is_terminal: false,
+        calls: &[
+            (Some(0), Call::Reads(Journal, 0), ""),
+            (Some(5_000), Call::Reads(Journal, 0), ""),
+        ],
+        last: "",
+    };
+
     #[test]
-    fn a_clock_that_fails_tells_nothing(rt: HostRuntime) -> Result<(), Fail> {
-        let hand = Hand::at(0);
-        let paper = Paper::new(String::new(rt.alloc()), true);
-        let progress = Progress::new("tt_archive", &hand, &paper);
-        for millis in [Some(0), None, Some(999), None] {
-            hand.millis.set(millis);
-            progress.reads(Area::Journal, 0, 10);
-        }
-        let written = paper.taken(String::new(rt.alloc()));
-        assert_eq!(rt; written.as_deref(), Some(""));
-        Ok(())
+    fn nothing_is_asked_without_a_terminal(rt: HostRuntime) {
+        expect_story(&rt, rt.alloc(), &NO_TERMINAL);
+    }
+
+    /// Every other time the clock fails.
+    const FAILING_CLOCK: Story = Story {
+        is_terminal: true,
+        calls: &[
+            (Some(0), Call::Reads(Journal, 0), ""),
+            (None, Call::Reads(Journal, 0), ""),
+            (Some(999), Call::Reads(Journal, 0), ""),
+            (None, Call::Reads(Journal, 0), ""),
+        ],
+        last: "",
+    };
+
+    #[test]
+    fn a_clock_that_fails_tells_nothing(rt: HostRuntime) {
+        expect_story(&rt, rt.alloc(), &FAILING_CLOCK);
     }
 }

@@ -108,8 +108,10 @@ impl<S: Write, C, E: Eprint> Write for WatchedStream<'_, S, C, E> {
 #[cfg(test)]
 mod tests {
     use super::*;
+    use std::alloc::Global;
     use std::cell::Cell;
-    use std::test::Fail;
+    use std::fmt::Debug;
+    use std::process::Abort;
 
     /// A file of at most eight bytes, and which of its calls came last.
     #[derive(Drop)]
@@ -166,33 +168,70 @@ mod tests {
         }
     }
 
-    #[test]
-    fn calls_go_through(rt: HostRuntime) -> Result<(), Fail> {
-        let progress = Progress::new("tests", &rt, rt.stderr());
+    /// What is found is what is wanted.
+    fn expect_same<T: PartialEq + Debug + Drop>(rt: &impl Abort, found: T, wanted: T) {
+        assert_eq!(rt; found, wanted);
+    }
+
+    /// Bytes that are written and read reach the file at their places.
+    fn expect_moved<C: Clock, E: Eprint>(rt: &impl Abort, file: &WatchedFile<'_, Tape, C, E>) {
+        expect_same(rt, file.write_at(b"abc", 2).ok(), Some(3));
+        expect_same(rt, file.file.bytes.get(), *b"\0\0abc\0\0\0");
+        let mut buf = [0; 4];
+        expect_same(rt, file.read_at(&mut buf, 1).ok(), Some(4));
+        expect_same(rt, buf, *b"\0abc");
+    }
+
+    /// A call went well, and reached the file as this one.
+    fn expect_called(rt: &impl Abort, answer: io::Result<()>, tape: &Tape, call: &str) {
+        expect_same(rt, answer.ok(), Some(()));
+        expect_same(rt, tape.last.get(), call);
+    }
+
+    /// Calls that move no byte reach the file as they are.
+    fn expect_kept<C: Clock, E: Eprint>(rt: &impl Abort, file: &mut WatchedFile<'_, Tape, C, E>) {
+        expect_same(rt, file.seek(SeekFrom::End(0)).ok(), Some(8));
+        expect_called(rt, file.set_len(7), &file.file, "set_len");
+        expect_called(rt, file.sync_data(), &file.file, "sync_data");
+        expect_called(rt, file.sync_all(), &file.file, "sync_all");
+        expect_same(rt, file.metadata().is_err(), true);
+    }
+
+    /// The calls of a file that a progress sees reach it.
+    fn expect_file<C: Clock, E: Eprint>(rt: &impl Abort, progress: &Progress<C, E>) {
         let tape = Tape {
             bytes: Cell::new([0; 8]),
             last: Cell::new(""),
         };
-        let mut file = WatchedFile::new(tape, Some(Area::Journal), &progress);
-        assert_eq!(rt; file.write_at(b"abc", 2)?, 3);
-        assert_eq!(rt; file.file.bytes.get(), *b"\0\0abc\0\0\0");
-        let mut buf = [0; 4];
-        assert_eq!(rt; file.read_at(&mut buf, 1)?, 4);
-        assert_eq!(rt; buf, *b"\0abc");
-        assert_eq!(rt; file.seek(SeekFrom::End(0))?, 8);
-        file.set_len(7)?;
-        assert_eq!(rt; file.file.last.get(), "set_len");
-        file.sync_data()?;
-        assert_eq!(rt; file.file.last.get(), "sync_data");
-        file.sync_all()?;
-        assert_eq!(rt; file.file.last.get(), "sync_all");
-        assert!(rt; file.metadata().is_err());
-        let mut input = WatchedStream::new(&b"xyz"[..], &progress);
-        assert_eq!(rt; input.read(&mut buf)?, 3);
-        assert_eq!(rt; buf, *b"xyzc");
-        let mut output = WatchedStream::new(Vec::new(rt.alloc()), &progress);
-        assert_eq!(rt; output.write(b"xy")?, 2);
-        assert_eq!(rt; output.stream.as_slice(), b"xy".as_slice());
-        Ok(())
+        let mut file = WatchedFile::new(tape, Some(Area::Journal), progress);
+        expect_moved(rt, &file);
+        expect_kept(rt, &mut file);
+    }
+
+    /// A read of a stream that a progress sees reaches it.
+    fn expect_input<C: Clock, E: Eprint>(rt: &impl Abort, progress: &Progress<C, E>) {
+        let mut input = WatchedStream::new(&b"xyz"[..], progress);
+        let mut buf = *b"\0abc";
+        expect_same(rt, input.read(&mut buf).ok(), Some(3));
+        expect_same(rt, buf, *b"xyzc");
+    }
+
+    /// A write to a stream that a progress sees reaches it.
+    fn expect_output<C: Clock, E: Eprint>(
+        rt: &impl Abort,
+        alloc: Global,
+        progress: &Progress<C, E>,
+    ) {
+        let mut output = WatchedStream::new(Vec::new(alloc), progress);
+        expect_same(rt, output.write(b"xy").ok(), Some(2));
+        expect_same(rt, output.stream.as_slice(), b"xy".as_slice());
+    }
+
+    #[test]
+    fn calls_go_through(rt: HostRuntime) {
+        let progress = Progress::new("tests", &rt, rt.stderr());
+        expect_file(&rt, &progress);
+        expect_input(&rt, &progress);
+        expect_output(&rt, rt.alloc(), &progress);
     }
 }

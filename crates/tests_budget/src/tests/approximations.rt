@@ -1,7 +1,7 @@
 //! Approximate lists that were worked out by hand, or by a look at all ways to cut small lists.
 ghost use Rattle.lists_postings.specs.Lists.{IsList};
 
-use super::given::{Part, listed};
+use super::given::{Part, expect_same_in, listed};
 use base_types::{NOW, Posting, Tolerance};
 use lists_approx::approximate;
 use std::alloc::Global;
@@ -276,7 +276,7 @@ const SMALL: &[Row] = &[
 ];
 
 /// The list within a tolerance is approximated by this one.
-fn assert_near(
+fn expect_near(
     rt: &impl Abort,
     alloc: Global,
     list: &[Posting],
@@ -289,14 +289,14 @@ fn assert_near(
     let tolerance = Tolerance::new(part, whole).expect(rt, "a tolerance");
     let short = approximate(alloc, list, tolerance).expect(rt, "memory");
     let wanted = listed(rt, alloc, near);
-    assert_eq!(rt; short, wanted, "within {part}/{whole}");
+    expect_same_in(rt, (part, whole), short.as_slice(), wanted.as_slice());
 }
 
 /// Each tolerance gives the list that is wanted.
-fn assert_approximated(rt: &impl Abort, alloc: Global, parts: &[Part], wanted: &[Wanted]) {
+fn expect_approximated(rt: &impl Abort, alloc: Global, parts: &[Part], wanted: &[Wanted]) {
     let list = listed(rt, alloc, parts);
     for (tolerance, near) in wanted {
-        assert_near(rt, alloc, &list, *tolerance, near);
+        expect_near(rt, alloc, &list, *tolerance, near);
     }
 }
 
@@ -310,7 +310,7 @@ fn the_lists_of_a_growing_text(rt: HostRuntime) {
         ((1, 4), &[(1, 10, 40, 5)]),
         ((1, 5), &[(1, 10, 30, 4), (1, 30, 40, 5)]),
     ];
-    assert_approximated(&rt, rt.alloc(), GROWING, wanted);
+    expect_approximated(&rt, rt.alloc(), GROWING, wanted);
 }
 
 /// One frequency, and then the same document after a gap, and another one.
@@ -327,9 +327,9 @@ const JOINED: &[Part] = &[(1, 10, NOW, 3), (2, 5, 6, 3), (2, 7, 8, 3), (3, 8, 9,
 #[test]
 fn what_the_tolerance_0_joins(rt: HostRuntime) {
     let wanted: &[Wanted] = &[((0, 1), JOINED), ((0, u32::MAX), JOINED), ((1, 4), JOINED)];
-    assert_approximated(&rt, rt.alloc(), TOUCHING, wanted);
+    expect_approximated(&rt, rt.alloc(), TOUCHING, wanted);
     let none: &[Wanted] = &[((0, 1), &[]), ((1, 2), &[])];
-    assert_approximated(&rt, rt.alloc(), &[], none);
+    expect_approximated(&rt, rt.alloc(), &[], none);
 }
 
 /// The highest frequency, and the highest denominator.
@@ -376,7 +376,7 @@ const WIDEST: &[Row] = &[
 #[test]
 fn the_widest_frequencies_and_tolerances(rt: HostRuntime) {
     for (parts, wanted) in WIDEST {
-        assert_approximated(&rt, rt.alloc(), parts, wanted);
+        expect_approximated(&rt, rt.alloc(), parts, wanted);
     }
 }
 
@@ -384,6 +384,6 @@ fn the_widest_frequencies_and_tolerances(rt: HostRuntime) {
 #[test]
 fn small_lists_beside_all_approximations(rt: HostRuntime) {
     for (parts, wanted) in SMALL {
-        assert_approximated(&rt, rt.alloc(), parts, wanted);
+        expect_approximated(&rt, rt.alloc(), parts, wanted);
     }
 }

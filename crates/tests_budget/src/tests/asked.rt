@@ -1,7 +1,7 @@
 //! What was asked, and the shares that come of it.
 ghost use Rattle.std.specs.Prelude.{◌≤◌, ◌^◌};
 
-use super::given::listed;
+use super::given::{expect_same, expect_same_in, listed};
 use base_types::{Fraction, Key, NOW, Posting, Span, Time};
 use plans_partitions::Table;
 use plans_share::{Asked, MOST_ASKED, Times};
@@ -34,7 +34,7 @@ fn noted(rt: &impl Abort, alloc: Global, pairs: &[(&str, u64)]) -> Asked {
 }
 
 /// So many pairs have the word and a time in the span, by the pairs and by the word's times.
-fn assert_count(
+fn expect_count(
     rt: &impl Abort,
     alloc: Global,
     asked: &Asked,
@@ -44,9 +44,9 @@ fn assert_count(
 ) {
     let word = key(rt, alloc, word);
     let span = Span::new(from, to).expect(rt, "a span");
-    assert_eq!(rt; asked.count(&word, span), count, "from {from} to {to}");
     let times = asked.times(alloc, &word).expect(rt, "memory");
-    assert_eq!(rt; times.count(span), count, "from {from} to {to}");
+    let found = (asked.count(&word, span), times.count(span));
+    expect_same_in(rt, (from, to), found, (count, count));
 }
 
 /// Spans, and how many pairs of `v` and of `moon` are in them, where `v` was asked for at 25 and twice at 15,
@@ -69,9 +69,9 @@ fn pairs_are_counted_by_word_and_span(rt: HostRuntime) {
     let pairs = [("v", 25), ("v", 15), ("v", 15), ("moon", 15)];
     let asked = noted(&rt, alloc, &pairs);
     for (ends, of_v, of_moon) in &COUNTS {
-        assert_count(&rt, alloc, &asked, "v", *ends, *of_v);
-        assert_count(&rt, alloc, &asked, "moon", *ends, *of_moon);
-        assert_count(&rt, alloc, &asked, "vv", *ends, 0);
+        expect_count(&rt, alloc, &asked, "v", *ends, *of_v);
+        expect_count(&rt, alloc, &asked, "moon", *ends, *of_moon);
+        expect_count(&rt, alloc, &asked, "vv", *ends, 0);
     }
 }
 
@@ -83,9 +83,9 @@ fn only_the_first_pairs_are_noted(rt: HostRuntime) {
     note(&rt, alloc, &mut asked, "v", 5, MOST_ASKED - 1);
     note(&rt, alloc, &mut asked, "w", 5, 1);
     note(&rt, alloc, &mut asked, "x", 5, 1);
-    assert_count(&rt, alloc, &asked, "v", (0, NOW), 1_048_575);
-    assert_count(&rt, alloc, &asked, "w", (0, NOW), 1);
-    assert_count(&rt, alloc, &asked, "x", (0, NOW), 0);
+    expect_count(&rt, alloc, &asked, "v", (0, NOW), 1_048_575);
+    expect_count(&rt, alloc, &asked, "w", (0, NOW), 1);
+    expect_count(&rt, alloc, &asked, "x", (0, NOW), 0);
 }
 
 /// The table of a list up to a horizon.
@@ -105,7 +105,7 @@ fn weight(times: &Times, span: Span) -> u64
 }
 
 /// The front of a table, where these times are asked for, has these charges and costs.
-fn assert_front(
+fn expect_front(
     rt: &impl Abort,
     alloc: Global,
     table: &Table,
@@ -115,10 +115,9 @@ fn assert_front(
     let factor = Fraction::new(16, 1).expect(rt, "a factor");
     let load = Load::new(|span: Span| weight(times, span));
     let points = front(alloc, table, factor, &load).expect(rt, "memory");
-    assert_eq!(rt; points.len(), wanted.len());
-    for (point, (charge, cost)) in points.iter().zip(wanted) {
-        assert_eq!(rt; point.charge, *charge);
-        assert_eq!(rt; point.cost, *cost);
+    expect_same(rt, points.len(), wanted.len());
+    for (point, row) in points.iter().zip(wanted) {
+        expect_same(rt, (point.charge, point.cost), *row);
     }
 }
 
@@ -131,5 +130,5 @@ fn the_share_of_one_word(rt: HostRuntime) {
     let times = times.expect(&rt, "memory");
     let list = listed(&rt, alloc, &[(1, 10, 40, 1), (2, 20, 30, 1)]);
     let table = table_of(&rt, alloc, &list, 40);
-    assert_front(&rt, alloc, &table, &times, &[(2, 6), (3, 4)]);
+    expect_front(&rt, alloc, &table, &times, &[(2, 6), (3, 4)]);
 }

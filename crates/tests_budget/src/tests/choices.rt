@@ -2,6 +2,7 @@
 ghost use Rattle.std.specs.Prelude.{◌≡◌, true};
 ghost use Rattle.plans_share.specs.Steps.{AreCheap};
 
+use super::given::{expect_same, expect_same_in};
 use plans_share::{Choice, Offer, combine};
 use plans_space::Point;
 use std::alloc::Global;
@@ -159,7 +160,7 @@ fn chosen(rt: &impl Abort, alloc: Global, offers: &[Offer], budget: u64) -> Choi
 
 /// The charge and the cost of picks together, one of each offer.
 fn totals(rt: &impl Abort, offers: &[Offer], picks: &[usize]) -> Pair {
-    assert_eq!(rt; picks.len(), offers.len());
+    expect_same(rt, picks.len(), offers.len());
     let mut charges = 0u64;
     let mut costs = 0u128;
     for (offer, pick) in offers.iter().zip(picks) {
@@ -172,26 +173,26 @@ fn totals(rt: &impl Abort, offers: &[Offer], picks: &[usize]) -> Pair {
 }
 
 /// The choice costs so much, is told so, and may be taken.
-fn assert_costs(rt: &impl Abort, alloc: Global, offers: &[Offer], (budget, cost): Pair) {
+fn expect_costs(rt: &impl Abort, alloc: Global, offers: &[Offer], (budget, cost): Pair) {
     let choice = chosen(rt, alloc, offers, budget);
-    assert_eq!(rt; choice.cost, cost, "within {budget}");
     let (charges, costs) = totals(rt, offers, &choice.picks);
-    assert_eq!(rt; costs, cost, "within {budget}");
-    assert!(rt; charges <= budget || choice.picks.iter().all(|k| *k == 0));
+    expect_same_in(rt, budget, (choice.cost, costs), (cost, cost));
+    let is_kept = charges <= budget || choice.picks.iter().all(|k| *k == 0);
+    expect_same_in(rt, budget, is_kept, true);
 }
 
 /// Offers with these budgets cost so much.
-fn assert_chosen(rt: &impl Abort, alloc: Global, table: &[Plain], wanted: &[Pair]) {
+fn expect_chosen(rt: &impl Abort, alloc: Global, table: &[Plain], wanted: &[Pair]) {
     let offers = offers_of(rt, alloc, table);
     for pair in wanted {
-        assert_costs(rt, alloc, &offers, *pair);
+        expect_costs(rt, alloc, &offers, *pair);
     }
 }
 
 #[test]
 fn small_offers_beside_all_choices(rt: HostRuntime) {
     for (table, wanted) in SMALL {
-        assert_chosen(&rt, rt.alloc(), table, wanted);
+        expect_chosen(&rt, rt.alloc(), table, wanted);
     }
 }
 
@@ -213,9 +214,9 @@ const ALONE: [(Plain, &[Pair]); 3] = [
 
 #[test]
 fn no_word_and_one_word(rt: HostRuntime) {
-    assert_chosen(&rt, rt.alloc(), &[], &[(0, 0), (4096, 0)]);
+    expect_chosen(&rt, rt.alloc(), &[], &[(0, 0), (4096, 0)]);
     for (word, wanted) in &ALONE {
-        assert_chosen(&rt, rt.alloc(), &[*word], wanted);
+        expect_chosen(&rt, rt.alloc(), &[*word], wanted);
     }
 }
 
@@ -229,10 +230,10 @@ const OTHER: Plain = ((1, 100), &[(1, 100), (3, 10)]);
 fn the_budget_is_not_filled_word_by_word(rt: HostRuntime) {
     let alloc = rt.alloc();
     let wanted = [(1, 110), (3, 110), (4, 20), (5, 20), (6, 19)];
-    assert_chosen(&rt, alloc, &[ONE, OTHER], &wanted);
-    assert_chosen(&rt, alloc, &[OTHER, ONE], &wanted);
+    expect_chosen(&rt, alloc, &[ONE, OTHER], &wanted);
+    expect_chosen(&rt, alloc, &[OTHER, ONE], &wanted);
     // one word twice counts twice
-    assert_chosen(&rt, alloc, &[OTHER, OTHER], &[(3, 200), (4, 110), (6, 20)]);
+    expect_chosen(&rt, alloc, &[OTHER, OTHER], &[(3, 200), (4, 110), (6, 20)]);
 }
 
 /// Budgets, and the least costs of sixteen words with the same offer.
@@ -252,12 +253,12 @@ const SIXTEEN: [Pair; 10] = [
 #[test]
 fn sixteen_words(rt: HostRuntime) {
     let word: Plain = ((2, 10), &[(1, 8), (2, 4), (3, 1)]);
-    assert_chosen(&rt, rt.alloc(), &[word; 16], &SIXTEEN);
+    expect_chosen(&rt, rt.alloc(), &[word; 16], &SIXTEEN);
 }
 
 #[test]
 fn sixteen_words_of_the_highest_costs(rt: HostRuntime) {
     let word: Plain = ((0, MOST), &[(1, MOST - 1)]);
     let wanted = [(0, 16 * MOST), (16, 16 * MOST - 16), (4096, 16 * MOST - 16)];
-    assert_chosen(&rt, rt.alloc(), &[word; 16], &wanted);
+    expect_chosen(&rt, rt.alloc(), &[word; 16], &wanted);
 }

@@ -78,6 +78,19 @@ fn committed(rt: &impl Abort, alloc: Global, rows: &[(u32, Option<&str>)]) -> In
     index
 }
 
+/// A change that is prepared behind others, which bring these words.
+fn prepare_behind(
+    rt: &impl Abort,
+    alloc: Global,
+    words: &mut NewWords,
+    index: &mut Index,
+    (doc, text): (u32, Option<&str>),
+) -> Prepared {
+    assert!(rt; is_short(text));
+    let change = words.add(alloc, index, DocId(doc), text);
+    change.expect(rt, "room")
+}
+
 /// These changes, prepared all at once, each behind those before it.
 fn prepared(
     rt: &impl Abort,
@@ -87,11 +100,10 @@ fn prepared(
 ) -> Vec<Prepared> {
     let mut words = NewWords::new(alloc).expect(rt, "memory");
     let mut changes = Vec::new(alloc);
-    for (doc, text) in rows {
-        assert!(rt; is_short(*text));
-        let change = words.add(alloc, index, DocId(*doc), *text);
+    for row in rows {
         changes.reserve(1).expect(rt, "memory");
-        changes.push_reserved(change.expect(rt, "room"));
+        let change = prepare_behind(rt, alloc, &mut words, index, *row);
+        changes.push_reserved(change);
     }
     changes
 }
@@ -210,7 +222,7 @@ fn expect_history(rt: &impl Abort, alloc: Global, history: &History) {
     expect_words_of(rt, alloc, loaded(rt, alloc, changes), history.lists);
 }
 
-/// The words' lists in an index are these.
+/// The words' lists in an index are these; nothing more is asked of it.
 fn expect_words_of(rt: &impl Abort, alloc: Global, index: Index, lists: Lists<'_>) {
     expect_words(rt, alloc, &index, lists);
 }
@@ -228,19 +240,29 @@ fn expect_number(rt: &impl Abort, alloc: Global, index: &Index, word: &str, want
     expect_same_in(rt, word, number.number(), wanted);
 }
 
+/// Texts of two documents, each of which brings words that another has too.
+const BRINGING: &[(u32, Option<&str>)] = &[
+    (1, Some("red blue")),
+    (2, Some("blue green")),
+    (1, Some("green red")),
+];
+
+/// Their words and lists.
+const BROUGHT: Lists<'static> = &[
+    ("red", &[(1, 10, NOW, 1)]),
+    ("blue", &[(1, 10, 30, 1), (2, 20, NOW, 1)]),
+    ("green", &[(1, 30, NOW, 1), (2, 20, NOW, 1)]),
+];
+
 #[test]
 fn a_word_that_texts_bring_at_once_has_one_number(rt: HostRuntime) {
     let alloc = rt.alloc();
-    let changes = [
-        (1, Some("red blue")),
-        (2, Some("blue green")),
-        (1, Some("green red")),
-    ];
-    let index = at_once(&rt, alloc, &changes);
+    let index = at_once(&rt, alloc, BRINGING);
     expect_same(&rt, index.words(), 3);
     expect_number(&rt, alloc, &index, "red", 0);
     expect_number(&rt, alloc, &index, "blue", 1);
     expect_number(&rt, alloc, &index, "green", 2);
+    expect_words_of(&rt, alloc, index, BROUGHT);
 }
 
 /// Prepares a change of document 1 and drops it.
@@ -250,28 +272,27 @@ fn drop_change(rt: &impl Abort, alloc: Global, index: &mut Index, text: &str) {
     drop(dropped.expect(rt, "room"));
 }
 
+/// Words and their lists while document 1 has red, and once it has green.
+const WITH_RED: Lists<'static> = &[("blue", &[]), ("red", &[(1, 10, NOW, 1)])];
+
+const WITH_GREEN: Lists<'static> = &[
+    ("blue", &[]),
+    ("red", &[(1, 10, 20, 1)]),
+    ("green", &[(1, 20, NOW, 1)]),
+];
+
 #[test]
 fn a_change_that_is_dropped_changes_no_answer(rt: HostRuntime) {
     let alloc = rt.alloc();
     let mut index = committed(&rt, alloc, &[(1, Some("red"))]);
     drop_change(&rt, alloc, &mut index, "blue red red");
-    expect_words(
-        &rt,
-        alloc,
-        &index,
-        &[("blue", &[]), ("red", &[(1, 10, NOW, 1)])],
-    );
+    expect_words(&rt, alloc, &index, WITH_RED);
     commit(&rt, alloc, &mut index, DocId(1), time_at(1), Some("green"));
-    let lists: [(&str, &[Row]); 3] = [
-        ("blue", &[]),
-        ("red", &[(1, 10, 20, 1)]),
-        ("green", &[(1, 20, NOW, 1)]),
-    ];
-    expect_words(&rt, alloc, &index, &lists);
+    expect_words_of(&rt, alloc, index, WITH_GREEN);
 }
 
 /// Documents 9 and 3 have red, the latter twice; it is gone from 9 for a while, and no one has green.
-const REDS: [(u32, Option<&str>); 4] = [
+const REDS: &[(u32, Option<&str>)] = &[
     (9, Some("red")),
     (3, Some("red red")),
     (9, None),
@@ -279,7 +300,7 @@ const REDS: [(u32, Option<&str>); 4] = [
 ];
 
 /// Words and spans, the part of the word's list in the span, and how long the whole list is.
-const PARTS: [(&str, (u64, u64), &[Row], u64); 6] = [
+const PARTS: &[(&str, (u64, u64), &[Row], u64)] = &[
     ("red", (5, 10), &[], 3),
     ("red", (5, 11), &[(9, 10, 30, 1)], 3),
     ("red", (29, 40), &[(3, 20, NOW, 2), (9, 10, 30, 1)], 3),
@@ -307,18 +328,25 @@ fn expect_part(
     expect_same_in(rt, ends, found, whole);
 }
 
-/// The parts of lists in an index of these changes are those.
-fn expect_parts(rt: &impl Abort, alloc: Global, index: &Index) {
-    for part in &PARTS {
-        expect_part(rt, alloc, index, *part);
+/// Words, and the whole list of each.
+const WHOLE: Lists<'static> = &[
+    ("red", &[(3, 20, NOW, 2), (9, 10, 30, 1), (9, 40, NOW, 1)]),
+    ("green", &[]),
+];
+
+/// The parts of lists in an index of these changes are those, and the whole lists too.
+fn expect_parts(rt: &impl Abort, alloc: Global, index: Index) {
+    for part in PARTS {
+        expect_part(rt, alloc, &index, *part);
     }
+    expect_words_of(rt, alloc, index, WHOLE);
 }
 
 #[test]
 fn a_span_has_a_part_of_a_list(rt: HostRuntime) {
     let alloc = rt.alloc();
-    expect_parts(&rt, alloc, &committed(&rt, alloc, &REDS));
-    expect_parts(&rt, alloc, &loaded(&rt, alloc, &REDS));
+    expect_parts(&rt, alloc, committed(&rt, alloc, REDS));
+    expect_parts(&rt, alloc, loaded(&rt, alloc, REDS));
 }
 
 const DIGITS: &[u8; 36] = b"0123456789abcdefghijklmnopqrstuvwxyz";
@@ -352,11 +380,10 @@ fn expect_refusal(
     expect_same(rt, refusal, wanted);
 }
 
-/// So many words have room in an index; the last of them is this.
-fn fill(rt: &impl Abort, alloc: Global, index: &mut Index, count: u32, last: &str) {
+/// So many words have room in an index.
+fn fill(rt: &impl Abort, alloc: Global, index: &mut Index, count: u32) {
     let text = distinct_words(rt, alloc, count);
     commit(rt, alloc, index, DocId(7), time_at(0), Some(text.as_str()));
-    expect_word(rt, alloc, index, last, &[(7, 10, NOW, 1)]);
 }
 
 #[test]
@@ -366,7 +393,8 @@ fn there_may_be_2_to_the_20_words_and_no_more(rt: HostRuntime) {
     let more = distinct_words(&rt, alloc, (1 << 20) + 1);
     let full = Some(NumberError::Full);
     expect_refusal(&rt, alloc, &mut index, more.as_str(), full);
-    fill(&rt, alloc, &mut index, 1 << 20, "mh33");
+    fill(&rt, alloc, &mut index, 1 << 20);
     expect_refusal(&rt, alloc, &mut index, "MH33 0000", None);
-    expect_refusal(&rt, alloc, &mut index, "mh33 mh34", Some(NumberError::Full));
+    expect_refusal(&rt, alloc, &mut index, "mh33 mh34", full);
+    expect_words_of(&rt, alloc, index, &[("mh33", &[(7, 10, NOW, 1)])]);
 }

@@ -1,4 +1,5 @@
 //! What a packet is to an archive.
+use super::given::expect_same_in;
 use journal_packets::{Case, Packet, sort_out};
 use std::alloc::Global;
 use std::process::Abort;
@@ -38,29 +39,33 @@ const KEPT: [(&[u8], &[u8], Option<Difference>); 10] = [
     (b"abc", b"b", Some((0, Some(b'a'), Some(b'b')))),
 ];
 
+/// The packet of entry 1 with these bytes is this, where there are so many entries.
+fn expect_case(rt: &impl Abort, have: u64, kept: &[u8], packet: &Packet, wanted: Case) {
+    assert!(rt; packet.number <= have);
+    let case = sort_out(have, Some(kept), packet);
+    expect_same_in(rt, (have, kept), case, wanted);
+}
+
 /// The packet of entry 1 with these bytes is this, however many entries there are.
-fn assert_kept(
+fn expect_kept(
     rt: &impl Abort,
     alloc: Global,
-    kept: &[u8],
-    got: &[u8],
-    difference: Option<Difference>,
+    (kept, got, difference): (&[u8], &[u8], Option<Difference>),
 ) {
     let packet = packet(rt, alloc, 1, got);
     let wanted = match difference {
         Some((place, kept, got)) => Case::Conflict { place, kept, got },
         None => Case::Had,
     };
-    for have in [1, 2, u64::MAX] {
-        assert!(rt; packet.number <= have);
-        assert_eq!(rt; sort_out(have, Some(kept), &packet), wanted);
-    }
+    expect_case(rt, 1, kept, &packet, wanted);
+    expect_case(rt, 2, kept, &packet, wanted);
+    expect_case(rt, u64::MAX, kept, &packet, wanted);
 }
 
 #[test]
 fn packets_of_entries_that_are_kept(rt: HostRuntime) {
-    for (kept, got, difference) in &KEPT {
-        assert_kept(&rt, rt.alloc(), kept, got, *difference);
+    for row in &KEPT {
+        expect_kept(&rt, rt.alloc(), *row);
     }
 }
 
@@ -77,16 +82,16 @@ const TO_COME: [(u64, u64, Case); 8] = [
 ];
 
 /// The packet of an entry that isn't kept is this.
-fn assert_to_come(rt: &impl Abort, alloc: Global, have: u64, number: u64, wanted: Case) {
+fn expect_to_come(rt: &impl Abort, alloc: Global, (have, number, wanted): (u64, u64, Case)) {
     let packet = packet(rt, alloc, number, b"");
     assert!(rt; have < packet.number);
     let case = sort_out(have, None, &packet);
-    assert_eq!(rt; case, wanted, "{number} behind {have}");
+    expect_same_in(rt, (have, number), case, wanted);
 }
 
 #[test]
 fn packets_of_entries_to_come(rt: HostRuntime) {
-    for (have, number, case) in &TO_COME {
-        assert_to_come(&rt, rt.alloc(), *have, *number, *case);
+    for row in &TO_COME {
+        expect_to_come(&rt, rt.alloc(), *row);
     }
 }

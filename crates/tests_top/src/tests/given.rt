@@ -4,6 +4,7 @@ use super::shelf::{Fault, Shelf, Word};
 use base_types::{DocId, Posting, Span, Time};
 use query_top::{Row, TopError, top_rows};
 use std::alloc::Global;
+use std::fmt::Debug;
 use std::process::Abort;
 
 /// The posting of that document, start, end and frequency.
@@ -42,28 +43,58 @@ pub(crate) fn top(
     top_rows(alloc, weights, at, count, shelf)
 }
 
-/// That these rows are found, with so many blocks opened.
-pub(crate) fn assert_found(
+/// What is found is what is wanted, in a row that is told where it isn't so.
+pub(crate) fn expect_same_in<R: Debug + Drop, T: PartialEq + Debug + Drop>(
+    rt: &impl Abort,
+    row: R,
+    found: T,
+    wanted: T,
+) {
+    assert_eq!(rt; found, wanted, "in {row:?}");
+}
+
+/// The documents and scores of rows.
+fn told(rt: &impl Abort, alloc: Global, rows: &[Row]) -> Vec<(u32, u64)> {
+    let mut told = Vec::new(alloc);
+    for row in rows {
+        told.push((row.doc.0, row.score)).expect(rt, "memory");
+    }
+    told
+}
+
+/// The documents and scores of the first rows of the words of a shelf.
+pub(crate) fn found(
     rt: &impl Abort,
     alloc: Global,
     shelf: &mut Shelf,
-    (weights, at, count): (&[u32], u64, usize),
-    wanted: &[(u32, u64)],
-    opened: u64,
-) {
-    shelf.opened = 0;
-    let rows = top(rt, alloc, shelf, weights, at, count)
-        .ok()
-        .expect(rt, "rows");
-    assert_rows(rt, &rows, wanted);
-    assert_eq!(rt; shelf.opened, opened, "opened of {count} at {at}");
+    weights: &[u32],
+    at: u64,
+    count: usize,
+) -> Vec<(u32, u64)> {
+    let rows = top(rt, alloc, shelf, weights, at, count).ok();
+    told(rt, alloc, &rows.expect(rt, "rows"))
 }
 
-/// That rows are these documents with these scores.
-pub(crate) fn assert_rows(rt: &impl Abort, rows: &[Row], wanted: &[(u32, u64)]) {
-    assert_eq!(rt; rows.len(), wanted.len(), "the number of rows");
-    for (row, (doc, score)) in rows.iter().zip(wanted.iter()) {
-        assert_eq!(rt; row.doc, DocId(*doc));
-        assert_eq!(rt; row.score, *score);
+/// Weights, a time, how many rows are asked for, the documents and scores that are found, and how many blocks
+/// are opened for them.
+pub(crate) type Asked<'a> = (&'a [u32], u64, usize, &'a [(u32, u64)], u64);
+
+/// These rows are found, with so many blocks opened.
+pub(crate) fn expect_found(
+    rt: &impl Abort,
+    alloc: Global,
+    shelf: &mut Shelf,
+    (weights, at, count, wanted, opened): Asked<'_>,
+) {
+    shelf.opened = 0;
+    let found = found(rt, alloc, shelf, weights, at, count);
+    expect_same_in(rt, (at, count), found.as_slice(), wanted);
+    expect_same_in(rt, (at, count), shelf.opened, opened);
+}
+
+/// The same for each of these; nothing more is asked of the shelf.
+pub(crate) fn expect_each(rt: &impl Abort, alloc: Global, mut shelf: Shelf, all: &[Asked<'_>]) {
+    for asked in all {
+        expect_found(rt, alloc, &mut shelf, *asked);
     }
 }

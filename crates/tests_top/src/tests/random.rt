@@ -1,7 +1,7 @@
 //! Random words beside a look at each document.
 ghost use Rattle.std.specs.Prelude.{◌<◌};
 
-use super::given::{assert_rows, posting, shelf, top};
+use super::given::{expect_same_in, found, posting, shelf};
 use super::shelf::Word;
 use base_types::{Posting, Time};
 use std::alloc::Global;
@@ -160,27 +160,43 @@ impl Case {
     }
 }
 
-/// That the first rows are those of all documents, sorted.
-fn assert_sorted(rt: &impl Abort, alloc: Global, case: &Case, at: u64, count: usize) {
+/// The first rows are those of all documents, sorted.
+fn expect_sorted(rt: &impl Abort, alloc: Global, case: &Case, at: u64, count: usize) {
     let all = scores(rt, alloc, &case.lists, &case.weights, at);
     let wanted = sorted(rt, alloc, all, count);
     let mut shelf = shelf(alloc, case.words(rt, alloc, at));
-    let rows = top(rt, alloc, &mut shelf, &case.weights, at, count)
-        .ok()
-        .expect(rt, "rows");
-    assert_rows(rt, &rows, &wanted);
+    let rows = found(rt, alloc, &mut shelf, &case.weights, at, count);
+    expect_same_in(rt, (at, count), rows.as_slice(), wanted.as_slice());
+}
+
+/// Times, and how many rows are asked for.
+const QUESTIONS: [(u64, usize); 12] = [
+    (5, 1),
+    (5, 2),
+    (5, 5),
+    (5, 100),
+    (15, 1),
+    (15, 2),
+    (15, 5),
+    (15, 100),
+    (22, 1),
+    (22, 2),
+    (22, 5),
+    (22, 100),
+];
+
+/// Each question of a case is answered by the rows of all documents, sorted.
+fn expect_case(rt: &impl Abort, alloc: Global, case: Case) {
+    for (at, count) in &QUESTIONS {
+        expect_sorted(rt, alloc, &case, *at, *count);
+    }
 }
 
 #[test]
 fn first_rows_of_random_words_are_those_of_all_documents(rt: HostRuntime) {
-    let alloc = rt.alloc();
     let mut numbers = Numbers(18);
     for _ in 0..60 {
-        let case = Case::random(&rt, alloc, &mut numbers);
-        for at in [5u64, 15, 22] {
-            for count in [1usize, 2, 5, 100] {
-                assert_sorted(&rt, alloc, &case, at, count);
-            }
-        }
+        let case = Case::random(&rt, rt.alloc(), &mut numbers);
+        expect_case(&rt, rt.alloc(), case);
     }
 }
