@@ -1,9 +1,9 @@
 -- A batch may be taken exactly where nothing refuses it as a batch of items.
-use Rattle.std.proofs.Common.{◌≡◌, ◌⊎◌, ℕ, ◌+◌, ◌<◌, ◌≤◌, Bool, true, false, nat_lt, List, [], ◌∷◌, ◌++◌, length, map, take, get_or, sum_by, All, Option, Some, None, Result, Ok, Err, IsOk, IfOk, inl, inr, refl, ap, sym, subst, ◌∙◌, arith, length-append}
+use Rattle.std.proofs.Common.{◌≡◌, ◌⊎◌, ℕ, ◌+◌, ◌<◌, ◌≤◌, Bool, true, false, nat_lt, List, [], ◌∷◌, ◌++◌, length, map, take, get_or, sum_by, All, Option, Some, None, Result, Ok, Err, inl, inr, refl, ap, sym, subst, ◌∙◌, arith, length-append}
 use Rattle.std.specs.List.{flat_map}
 use Rattle.std.specs.Option.{option_map}
 use Rattle.std.proofs.lemmas.Bool.{false≢true, ltb-false}
-use Rattle.std.proofs.lemmas.List.{length-map, map-append, take_more}
+use Rattle.std.proofs.lemmas.List.{length-map, take_more}
 use Rattle.std.proofs.lemmas.List.Sums.{sum_by-cons}
 use Rattle.std.proofs.lemmas.List.Elements.{All-head, All-nil, All-cons, All-tail}
 use Rattle.std.proofs.lemmas.Str.{is_utf8-from_IsUtf8}
@@ -223,9 +223,6 @@ act_short (acts.Delete doc at) ranges = omega arith
 
 pub acts_taken : (batch : List Act) (i : ℕ) (act : Act) → i < length batch → act ≡ get_or batch i act → take (i + 1) batch ≡ take i batch ++ act ∷ []
 acts_taken batch i act within is = take_more batch i act within ∙ ap (λ (x : Act). take i batch ++ x ∷ []) (sym is)
-
-pub items_more : (batch : List Act) (i : ℕ) (act : Act) → i < length batch → act ≡ get_or batch i act → map item_by (take i batch) ++ item_by act ∷ [] ≡ map item_by (take (i + 1) batch)
-items_more batch i act within is = sym (ap (map item_by) (acts_taken batch i act within is) ∙ map-append item_by (take i batch) (act ∷ []))
 
 -- ---- what is known of a batch that was made
 

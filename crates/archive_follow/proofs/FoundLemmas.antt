@@ -1,5 +1,5 @@
 -- A plan of another archive, by its word's list up to its horizon: whether it may come next but for its places and the journal's room.
-use Rattle.std.proofs.Common.{◌≡◌, ◌↔◌, ℕ, zero, suc, ◌<◌, ◌≤◌, Bool, true, false, bytes_eq, cond, IsTrue, List, [], ◌∷◌, length, filter, take, get_or, All, Option, Some, None, IfSome, IsSomeAnd, option_map, unwrap_or, inl, inr, refl, ap, sym, subst, ◌∙◌, arith}
+use Rattle.std.proofs.Common.{◌≡◌, ℕ, zero, suc, ◌<◌, ◌≤◌, Bool, true, false, bytes_eq, cond, List, [], ◌∷◌, length, filter, take, get_or, All, Option, Some, None, IfSome, IsSomeAnd, option_map, unwrap_or, inl, inr, refl, ap, sym, subst, ◌∙◌, arith}
 use Rattle.std.proofs.lemmas.Bool.{cases_lt, not-true}
 use Rattle.std.proofs.lemmas.List.Elements.{All-head, All-tail}
 use Rattle.std.proofs.lemmas.Slice.Eq.{bytes_eq-Decides}
@@ -15,7 +15,7 @@ use Rattle.plans_kinds.specs.Plans.{IsGoodPlan}
 use Rattle.model_archive.specs.Answers.{frequency_at}
 use Rattle.model_archive.specs.Histories.{History, changes}
 use Rattle.model_archive.specs.Planning.{IsListUpTo, last_second}
-use Rattle.model_archive.specs.Plans.{is_another, live_plans, first_plan, plan_of}
+use Rattle.model_archive.specs.Plans.{is_another, first_plan, plan_of}
 use Rattle.model_archive.specs.declared.stored.StoredPlan.{StoredPlan}
 use Rattle.archive_entries.specs.Live.{IsPlanAt}
 use Rattle.archive_entries.specs.Texts.{nothing}
@@ -91,9 +91,6 @@ found h plan list ranges past never listed some good = record {
 
 pub late : (h : History) (plan : PlanEntry) → last_second h < plan.horizon.seconds → IsFoundOf h plan None
 late h plan after = λ list put. omega (arith, after, put.legal.planned.past)
-
-pub before_live : (h : History) (plan : PlanEntry) → IsBeforeLive h plan → IsFoundOf h plan None
-before_live h plan before = λ list put. before_never h plan before put.later
 
 pub nothing_there : (h : History) (plan : PlanEntry) (list : List Posting) → IsListUpTo h plan.word plan.horizon.seconds list → length list ≡ 0 → IsFoundOf h plan None
 nothing_there h plan list listed none = λ other put.

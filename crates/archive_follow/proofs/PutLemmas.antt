@@ -1,5 +1,5 @@
 -- A plan of another archive: when it may be taken, and what is known once it was to be stored in its own places.
-use Rattle.std.proofs.Common.{◌≡◌, ◌⊎◌, ◌↔◌, ℕ, zero, suc, ◌+◌, ◌<◌, ◌≤◌, true, false, List, [], ◌∷◌, ◌++◌, length, take, get_or, All, Option, Some, None, Result, Ok, Err, IsOk, IfOk, IsErrOf, IsTrue, inl, inr, refl, ap, sym, subst, ◌∙◌, arith}
+use Rattle.std.proofs.Common.{◌≡◌, ◌⊎◌, ◌↔◌, ℕ, zero, suc, ◌+◌, ◌<◌, List, [], ◌∷◌, ◌++◌, length, take, get_or, All, Option, None, Result, Ok, Err, IsOk, IfOk, IsTrue, inl, inr, refl, ap, sym, subst, arith}
 use Rattle.std.specs.List.{AllZip}
 use Rattle.std.proofs.lemmas.Bool.{false≢true}
 use Rattle.machine_model.specs.Causes.{Rose}
@@ -15,21 +15,18 @@ use Rattle.archive_hand.specs.declared.storing_at.PutError.TheVariants as puts
 use Rattle.model_archive.specs.Worlds.{taken_in}
 use Rattle.archive_follow.specs.declared.error.TakeEntryError.TheVariants as takes
 use Rattle.std.proofs.lemmas.List.Elements.{All-cons, All-nil}
-use Rattle.base_types.specs.Limits.{limit_of}
 use Rattle.base_types.specs.declared.extent.Extent.{Extent}
 use Rattle.base_types.specs.declared.posting.Posting.{Posting}
-use Rattle.base_types.specs.declared.which.Which.TheVariants.{Journal}
 use Rattle.lists_postings.proofs.Clipping.{one_list_of}
 use Rattle.machine_model.specs.States.{DiskState}
-use Rattle.journal_entries.specs.Spelling.{spelling, IsEntry}
-use Rattle.journal_entries.specs.declared.entry.Entry.{Entry}
+use Rattle.journal_entries.specs.Spelling.{spelling}
 use Rattle.journal_entries.specs.declared.entry.Entry.TheVariants.{Planned}
 use Rattle.journal_entries.specs.declared.place.Place.{Place}
 use Rattle.journal_entries.specs.declared.plan.PlanEntry.{PlanEntry}
 use Rattle.pages_area.specs.Runs.{IsPageOf, IsTaken}
 use Rattle.pages_area.specs.Taken.{AreApart}
 use Rattle.pages_area.proofs.StayLemmas.{taken_left, taken_right}
-use Rattle.pages_sublists.specs.PlacedAt.{IsPlaceFault, Suits}
+use Rattle.pages_sublists.specs.PlacedAt.{IsPlaceFault}
 use Rattle.pages_sublists.specs.Preparing.{IsFor, extents}
 use Rattle.pages_sublists.specs.declared.why.PlaceError.{PlaceError}
 use Rattle.pages_sublists.specs.declared.why.PlaceError.TheVariants.{Differs, Taken, Memory}
@@ -40,7 +37,7 @@ use Rattle.model_archive.specs.Plans.{live_extents}
 use Rattle.model_archive.proofs.HistoryLemmas.{end_of-push}
 use Rattle.archive_plans.specs.ReadyingAt.{IsUntaken, sublists_of}
 use Rattle.archive_hand.specs.StoringAt.{HasOwnPlaces, IsPutBy}
-use Rattle.model_follow.specs.Taking.{MayBeTaken, SpellsNext}
+use Rattle.model_follow.specs.Taking.{MayBeTaken}
 use Rattle.archive_follow.specs.Taken.{AfterTaking, ComesBehind, IsFoundOf, IsProper, MayBePut, Takes, TakesBody, TakesBy, as_put}
 use Rattle.archive_follow.proofs.TakenLemmas.{spells_no_next, spent_but}
 

@@ -1,5 +1,5 @@
 -- A change, and the mark, may be taken exactly where nothing refuses it.
-use Rattle.std.proofs.Common.{◌≡◌, ℕ, ◌<◌, ◌≤◌, ◌^◌, Bool, true, false, nat_lt, List, [], ◌∷◌, ◌++◌, length, Option, Some, None, refl, ap, sym, subst, ◌∙◌, arith}
+use Rattle.std.proofs.Common.{◌≡◌, ℕ, ◌≤◌, Bool, true, false, nat_lt, List, [], ◌∷◌, ◌++◌, length, Option, None, refl, ap, ◌∙◌}
 use Rattle.std.proofs.lemmas.Bool.{le-ltb, ltb-false}
 use Rattle.std.proofs.lemmas.Str.{is_utf8-from_IsUtf8}
 use Rattle.std.specs.Str.{is_utf8}
@@ -13,15 +13,13 @@ use Rattle.journal_entries.specs.Acts.{most_text}
 use Rattle.journal_entries.specs.Spelling.{IsEntry}
 use Rattle.journal_entries.specs.declared.entry.Entry.{Entry}
 use Rattle.journal_entries.specs.declared.entry.Entry.TheVariants as entries
-use Rattle.model_archive.specs.declared.refusal.Refusal.{Refusal}
 use Rattle.model_archive.specs.declared.refusal.Refusal.TheVariants as refusals
 use Rattle.model_archive.specs.Histories.{History, end_of, entry_refusal}
-use Rattle.model_archive.specs.Legal.{IsLegalEntry}
 use Rattle.model_archive.specs.Steps.{arrival_refusal, bad_text, deletion_refusal, full_journal, mark_refusal, too_long}
 use Rattle.model_archive.proofs.BatchLemmas.{first_step, none_found}
 use Rattle.model_archive.proofs.OutcomeLemmas.{arrival_legal, deletion_legal, mark_legal}
 use Rattle.model_archive.proofs.RefusalLemmas.{when_false}
-use Rattle.model_follow.specs.Taking.{IfPlaced, MayBeTaken}
+use Rattle.model_follow.specs.Taking.{MayBeTaken}
 
 -- where no test finds a cause, the last finds none
 pub last_none : {W : Type 0} (tests : List (Option W)) (o : Option W) → first_of (tests ++ o ∷ []) ≡ None → o ≡ None

@@ -1,5 +1,5 @@
 -- A change that is made of an entry of another archive: what is known of it, by what is known of the change.
-use Rattle.std.proofs.Common.{◌≡◌, ◌⊎◌, ◌↔◌, ℕ, ◌+◌, true, false, List, [], ◌∷◌, ◌++◌, length, All, Option, Some, None, Result, Ok, Err, IfOk, IsOk, IsTrue, OnOk, inl, inr, refl, ap, sym, subst, ◌∙◌, arith}
+use Rattle.std.proofs.Common.{◌≡◌, ◌⊎◌, ℕ, ◌+◌, false, List, [], ◌∷◌, ◌++◌, All, Option, Some, None, Result, Ok, Err, IsTrue, inl, inr, refl, sym, subst, ◌∙◌, arith}
 use Rattle.std.proofs.lemmas.Bool.{false≢true}
 use Rattle.machine_model.specs.Areas.{Bytes}
 use Rattle.machine_model.specs.States.{DiskState}
@@ -10,14 +10,13 @@ use Rattle.journal_entries.specs.Spelling.{spelling, IsEntry}
 use Rattle.journal_entries.specs.declared.entry.Entry.{Entry}
 use Rattle.model_archive.specs.declared.refusal.Refusal.{Refusal}
 use Rattle.model_archive.specs.Histories.{History}
-use Rattle.model_archive.proofs.HistoryLemmas.{end_of-push}
 use Rattle.model_archive.specs.Plans.{live_extents}
 use Rattle.model_archive.specs.Stands.{bodies_of}
 use Rattle.model_archive.specs.Steps.{Reply, Accepted, Refused}
 use Rattle.model_archive.specs.Steps as machine
 use Rattle.archive_hand.specs.Adding.{IsDone as IsMade, IsSpent, IsSpentBut}
 use Rattle.archive_hand.specs.Changing.{KeepsBy, LeadsBy}
-use Rattle.archive_hand.specs.States.{ArchiveState, AreInStepBy, CacheStands, Reaches, StandsFor}
+use Rattle.archive_hand.specs.States.{ArchiveState, AreInStepBy, Reaches, StandsFor}
 use Rattle.archive_hand.specs.Stored.{HasSame, IsSameStore, StandsBy, Stocks, Store, StoreStep, TellsNoEntry}
 use Rattle.archive_hand.specs.Takes.{Comes, Ending, Faulted, Replied, Starved, TakesBy as CarriesBy}
 use Rattle.archive_hand.specs.declared.error.ChangeError.{ChangeError}
@@ -28,7 +27,7 @@ use Rattle.archive_changes.specs.Endings.{changed, changed_all, plainly}
 use Rattle.archive_changes.specs.declared.error.BatchError.{BatchError}
 use Rattle.archive_changes.specs.declared.error.BatchError.TheVariants as batches
 use Rattle.model_follow.specs.Taking.{MayBeTaken, SpellsNext}
-use Rattle.archive_follow.specs.Taken.{AfterTaking, ComesBehind, IsDone, Takes, TakesBody, TakesBy, as_taken}
+use Rattle.archive_follow.specs.Taken.{AfterTaking, Takes, TakesBody, TakesBy, as_taken}
 use Rattle.archive_follow.specs.declared.error.TakeEntryError.{TakeEntryError}
 use Rattle.archive_follow.specs.declared.error.TakeEntryError.TheVariants as takes
 
@@ -257,8 +256,3 @@ takes_starved h body a = record {
 }
 
 -- ---- how long the journal is
-
--- at Ok it is longer by the entry's bytes and 5 more
-pub longer : (h : History) (body : List ℕ) (r : Result ℕ TakeEntryError) (old new : ArchiveState) → StandsFor old h → ComesBehind h body r new → OnOk r (new.end ≡ old.end + 5 + length body)
-longer h body (Ok n) old new stands (e, spelled, there, counted) = omega (arith, there.end_is, stands.end_is, end_of-push h e, ap length spelled)
-longer h body (Err error) old new stands comes = tt

@@ -1,5 +1,5 @@
 //! A batch of another archive is taken.
-ghost use Rattle.std.specs.Prelude.{◌≡◌, ◌∷◌, [], map, sum_by, None, IfOk, IsTrue};
+ghost use Rattle.std.specs.Prelude.{◌≡◌, map, sum_by, IfOk, IsTrue};
 ghost use Rattle.journal_entries.specs.Acts.{IsAct, IsBatch, act_length};
 ghost use Rattle.journal_entries.specs.Spelling.{spelling};
 ghost use Rattle.journal_entries.specs.declared.entry.Entry.TheVariants as entries;

@@ -1,5 +1,5 @@
 //! A change of another archive, or its mark, is taken.
-ghost use Rattle.std.specs.Prelude.{◌≡◌, None, IsTrue};
+ghost use Rattle.std.specs.Prelude.{◌≡◌, IsTrue};
 ghost use Rattle.journal_entries.specs.Spelling.{spelling, IsEntry};
 ghost use Rattle.journal_entries.specs.declared.entry.Entry.TheVariants as entries;
 ghost use Rattle.model_archive.specs.Histories.{History};

@@ -1,6 +1,6 @@
 //! A plan with places of its own that is made ready to be stored.
 ghost use Rattle.std.specs.Prelude.{◌≡◌, ◌+◌, ◌<◌, ◌≤◌, ◌^◌, ◌++◌, List, length, All, IfOk, OnOk, OnErr, IsErrOf};
-ghost use Rattle.journal_gates.specs.Records.{gate_bytes, new_bytes};
+ghost use Rattle.journal_gates.specs.Records.{new_bytes};
 ghost use Rattle.base_types.specs.declared.extent.Extent.{Extent as PlainExtent};
 ghost use Rattle.journal_entries.specs.PlanSpelling.{plan_spelling};
 ghost use Rattle.journal_entries.specs.declared.place.Place.{Place as PlainPlace};

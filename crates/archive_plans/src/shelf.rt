@@ -197,7 +197,8 @@ impl Shelf {
         ensures plans { self.new.plans ≡ self.old.plans }
         ensures cache { self.new.cache ≡ self.old.cache }
         ensures room { self.new.room ≡ self.old.room }
-        ensures spelled { IfOk result (λ p. p.spellings ≡ spellings plan.now.layout list.now (seconds plan.now.cuts) plan.now.horizon.seconds) }
+        ensures spelled { IfOk result (λ p. p.spellings
+            ≡ spellings plan.now.layout list.now (seconds plan.now.cuts) plan.now.horizon.seconds) }
         ensures places { IfOk result (λ p. p.places ≡ plan.now.places) }
         ensures each { IfOk result (λ p. AllZip IsFor p.places p.spellings) }
         ensures taken { (taken : List PlainExtent) → HasTaken self.old.pages taken

@@ -5,14 +5,12 @@ use Rattle.std.proofs.lemmas.List.{append-nil}
 use Rattle.std.proofs.lemmas.List.Elements.{All-nil}
 use Rattle.machine_model.specs.Areas.{Bytes}
 use Rattle.machine_model.specs.Causes.{Rose}
-use Rattle.machine_model.specs.Images.{MayLeave}
-use Rattle.machine_model.specs.Moments.{LeavesOnly}
 use Rattle.machine_model.specs.Pulls.{Pull}
 use Rattle.machine_model.specs.Pushes.{IsPrefix}
-use Rattle.machine_model.specs.States.{DiskState, MachineState, SinkState, SourceState, moment}
+use Rattle.machine_model.specs.States.{MachineState, SinkState, SourceState, moment}
 use Rattle.machine_model.proofs.MomentLemmas.{allowed_left, goes_on_joins, joined}
 use Rattle.journal_gates.specs.Crash.{KeepsBodies, KeepsPages}
-use Rattle.journal_gates.specs.Spelled.{EachSpells, Spells}
+use Rattle.journal_gates.specs.Spelled.{EachSpells}
 use Rattle.journal_packets.specs.Packets.{IsFramed}
 use Rattle.archive_entries.specs.declared.error.LoadError.{LoadError}
 use Rattle.archive_entries.specs.declared.error.LoadError.TheVariants as loads

@@ -1,4 +1,4 @@
-use Rattle.std.proofs.Common.{◌≡◌, ◌<◌, List, Option, Some, None, IsSomeAnd, All, true, subst, sym}
+use Rattle.std.proofs.Common.{◌≡◌, ◌<◌, Option, Some, None, IsSomeAnd, subst, sym}
 use Rattle.std.proofs.lemmas.Bool.{false≢true}
 use Rattle.journal_entries.specs.declared.plan.PlanEntry.{PlanEntry}
 use Rattle.model_archive.specs.Plans.{plan_of}
