@@ -66,13 +66,6 @@ not_before h plan never = go (plan_of h plan.word) never
     go None never = tt
     go (Some live) never = elim (cases_lt plan.horizon.seconds live.horizon.seconds) [ inl less ↦ absurd (never less) | inr more ↦ more ]
 
-before_never : (h : History) (plan : PlanEntry) → IsBeforeLive h plan → IsNotBefore h plan → ⊥
-before_never h plan before later = go (plan_of h plan.word) before later
-  where
-    go : (o : Option PlanEntry) → IsSomeAnd o (λ live. plan.horizon.seconds < live.horizon.seconds) → IfSome o (λ live. live.horizon.seconds ≤ plan.horizon.seconds) → ⊥
-    go None before later = before
-    go (Some live) before later = omega (arith, before, later)
-
 -- ---- what is found
 
 one_list : (h : History) (plan : PlanEntry) (these those : List Posting) → IsListUpTo h plan.word plan.horizon.seconds these → IsListUpTo h plan.word plan.horizon.seconds those → these ≡ those
