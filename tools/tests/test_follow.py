@@ -25,6 +25,16 @@ PLANNED = b"arrive 1 10 1\nv\narrive 2 20 1\nv\ndelete 2 30\ndelete 1 40\nplan v
 OTHER = b"arrive 7 10 5\nred a\n"
 FILES = ("archive.journal", "archive.pages", "names.tsv", "imports.tsv")
 TABLES = FILES[2:]
+#: Shows what a program shows, and rests for some seconds in the middle.
+SLOW = """
+import subprocess, sys, time
+size, *words = sys.argv[1:]
+shown = subprocess.run(words, stdout=subprocess.PIPE).stdout
+sys.stdout.buffer.write(shown[: int(size)])
+sys.stdout.flush()
+time.sleep(5)
+sys.stdout.buffer.write(shown[int(size) :])
+"""
 
 
 def run(folder: Path, *words: str, given: bytes = b"") -> tuple[int, bytes, str]:
@@ -392,7 +402,9 @@ class Stops(Followed):
         self.assertIn("took 0 of 31 entries; the next one can't be taken here (tt_archive: bad packet at byte 0)", said)
 
     def test_signals(self) -> None:
-        slow = self.program(follow=f'{{ head -c {self.size // 2}; sleep 2; cat; }} | real "$@"')
+        file = self.folder / "slow.py"
+        file.write_text(SLOW)
+        slow = self.program(export=f'exec {sys.executable} -S -E {file} {self.size // 2} {shlex.join(find_program(None))} "$@"')
         for number, status in ((signal.SIGTERM, 143), (signal.SIGINT, 130), (signal.SIGHUP, 129), (signal.SIGKILL, -9)):
             with self.subTest(number):
                 started = self.start("follow", self.archive, TT_ARCHIVE=slow)
