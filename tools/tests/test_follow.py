@@ -463,11 +463,21 @@ class Apart(Followed):
         one, other = (commands.arrive(7, START + DAY, b"The bridge is %b." % word) for word in (b"closed for repairs until the end of the summer", b"open"))
         self.assert_apart(
             same + one + later, same + other + own, "tt: from its byte 27 on LEADER has another entry 2, so one of the two archives went its own way",
-            "here   #7 at 2007-07-24: The bridge is open.", "there  #7 at 2007-07-24: The bridge is closed for repairs until the end of…",
+            "here   #7 at 2007-07-24: The bridge is open.", "there  #7 at 2007-07-24: The bridge is closed for repairs until the end of the …",
         )  # fmt: skip
-        long = b"An \xc3\xa9t\xc3\xa9 of words in a row, and of more of them: "
+        long = b"An \xc3\xa9t\xc3\xa9 of more of these: "  # the cut is in a character
         one, other = (commands.arrive(7, START + DAY, long + word) for word in (b"red\n", b"blue"))
-        self.assert_apart(one, other + later.replace(b" 1 ", b" 7 "), "entry 1,", "here   #7 at 2007-07-24: …d of more of them: blue", "there  #7 at 2007-07-24: …d of more of them: red\\x0a")
+        self.assert_apart(one, other + later.replace(b" 1 ", b" 7 "), "entry 1,", "here   #7 at 2007-07-24: … of more of these: blue", "there  #7 at 2007-07-24: … of more of these: red\\x0a")
+
+    def test_those_that_end_alike(self) -> None:
+        """Entries of the same lengths behind which the same one comes, at the same place."""
+        one, other = (commands.arrive(7, START, text) for text in (b"red", b"tan"))
+        first, last = commands.arrive(1, START, b"The first."), commands.delete(7, START + DAY)
+        for more in (b"", commands.arrive(1, START + 2 * DAY, b"more")):
+            self.assert_apart(
+                first + one + last + more, first + other + last, "from its byte 13 on LEADER has another entry 2,",
+                "here   #7 at 2007-07-23: tan", "there  #7 at 2007-07-23: red",
+            )  # fmt: skip
 
     def test_names_are_those_of_each(self) -> None:
         for folder, name, text in ((self.archive, "ferry.txt", b"red"), (self.replica, "bridge\t.txt", b"red")):

@@ -1,7 +1,8 @@
 """The command that a `tt follow` runs at its leader: export.
 
-It writes a line with how many entries the archive has and how long its tables are, the tables, and then what the program
-writes: the entries as packets. The folder is held from the first byte to the last, so all of it is of one moment.
+It writes a line, the tables, and then what the program writes: the entries as packets. The line has how many entries the archive
+has, the digest of its journal up to the end of the entry of that number, and how long the tables are. The folder is held from the
+first byte to the last, so all of it is of one moment.
 """
 
 from __future__ import annotations
@@ -15,7 +16,7 @@ from typing import Sequence
 
 from .collection import archives_in
 from .errors import NotBuilt, ToolError
-from .journal import reach
+from .journal import digest, reach
 from .ledger import FILE as IMPORTS
 from .locks import Lock, Use, locked, patiently
 from .names import FILE as NAMES
@@ -36,8 +37,9 @@ def export(options: argparse.Namespace) -> None:
     if not (folder / JOURNAL).exists():
         raise ToolError(f"{folder / JOURNAL} is gone")
     with locked(folder, claim) as lock:
-        tables, out = tables_of(folder), sys.stdout.buffer
-        out.write(b"%d %d %d\n" % (reach(folder).entries, *map(len, tables)))
+        tables, front, out = tables_of(folder), reach(folder, most=options.number), sys.stdout.buffer
+        whole = digest(folder, 0, front.gate)
+        out.write(b"%d %b %d %d\n" % (reach(folder, front).entries, whole.encode(), *map(len, tables)))
         out.writelines(tables)
         out.flush()
         patiently(partial(_run, command, folder, lock), claim)

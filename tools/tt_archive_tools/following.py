@@ -1,14 +1,14 @@
 """The command that follows another archive: follow.
 
 The leader's `tt export` writes packets, and this archive's program takes them from the same pipe. It begins with the last
-entry that this archive has, so that one which went its own way is noticed before anything is taken. Each entry is taken as
-safely as an arrival, so a stop of either side costs nothing: the next time goes on from there.
+entry that this archive has, and tells the digest of the journal up to there. So an archive that went its own way anywhere is noticed
+before anything is taken. Each entry is taken as safely as an arrival, so a stop of either side costs nothing: the next time goes on
+from there.
 """
 
 from __future__ import annotations
 
 import argparse
-import hashlib
 import select
 import shlex
 import subprocess
@@ -22,7 +22,7 @@ from .differing import difference
 from .errors import InUse, NotBuilt, ToolError
 from .exporting import TABLES, check_alone, tables_of
 from .feeding import Progress
-from .journal import Reach, bodies, reach
+from .journal import Reach, bodies, digest, reach
 from .locks import DOOR, Lock, Use, locked
 from .opening import claim_of
 from .places import replace_file
@@ -46,7 +46,7 @@ class _Later(ToolError):
 
 
 class _Apart(Exception):
-    """The leader doesn't have the last entry that this archive has."""
+    """The leader doesn't have the entries that this archive has."""
 
 
 def follow(options: argparse.Namespace) -> None:
@@ -93,6 +93,8 @@ class _Follower:
         self._command = find_program(options.program)
         self._folder = options.archive
         self._held = Reach()
+        #: Whether the leader was seen to have all that this one has, and not the last entry alone.
+        self._is_front = False
         if leader.is_here and self._folder.resolve() == leader.folder.resolve():
             raise ToolError("an archive can't follow itself")
         _prepare(self._folder)
@@ -108,8 +110,11 @@ class _Follower:
         if not is_open(self._folder / DOOR):
             with locked(self._folder, replace(self._claim, use=Use.ASKS)):
                 pass  # whoever is at work here is waited for before the leader is disturbed
+        own_front = digest(self._folder, 0, before.gate)
         try:
             with _Export(self._options, self._leader, max(before.entries, 1)) as export:
+                if before.entries and export.front != own_front:
+                    raise _Apart
                 export.wait()  # this archive isn't held while the leader's is loaded
                 with locked(self._folder, self._claim) as lock:
                     took = self._feed(export, lock, before.entries)
@@ -118,17 +123,20 @@ class _Follower:
                             replace_file(self._folder / name, table)
         except _Apart:
             raise self._difference() from None
-        self._held = reach(self._folder, before)
+        self._held, self._is_front = reach(self._folder, before), True
         if not self._options.quiet:
             them = ", and took it" if took == 1 else ", and took them" if took else ""
             print(f"{counted(took, 'entry', 'entries')} behind{them}; {_told(self._held)}")
 
     def _is_level(self, held: Reach) -> bool:
-        """Whether the leader's journal has the last entry of this one at the same place, and none behind it. That is looked at
-        without a lock, as what is being written doesn't count yet."""
-        size = held.gate + 1 - held.last
-        own = _digest(Shard(self._folder), held.last, size)
-        return bool(own) and own == _digest(self._leader, held.last, size)
+        """Whether the leader's journal has the last entry of this one at the same place, and none behind it; the first time also
+        whether it has the same in front of that. It is looked at without a lock, as what is being written doesn't count yet."""
+        self._is_front = self._has_same(held.last, held.gate + 1) and (self._is_front or self._has_same(0, held.gate))
+        return self._is_front
+
+    def _has_same(self, start: int, end: int) -> bool:
+        own = digest(self._folder, start, end)
+        return bool(own) and own == _digest(self._leader, start, end)
 
     def _feed(self, export: _Export, lock: Lock, held: int) -> int:
         """Has the program take the packets, and answers how many entries it took."""
@@ -211,7 +219,9 @@ class _Export:
         """Returns when the leader is held: it then tells how many entries it has, and its tables."""
         try:
             head = self.packets.readline()
-            self.entries, *sizes = (int(word) if word.isdigit() else -1 for word in head.split() or [b""])
+            words = head.split()
+            self.front = words.pop(1).decode("ascii", "replace") if len(words) > 1 else ""
+            self.entries, *sizes = (int(word) if word.isdigit() else -1 for word in words or [b""])
             self.tables = [self._read(size) for size in sizes]
             is_head = len(sizes) == len(TABLES)
             if not is_head or [*map(len, self.tables)] != sizes:
@@ -275,15 +285,10 @@ def _told(held: Reach) -> str:
     return f"has {held.entries}" + ("" if held.time is None else f", until {show_time(held.time)}")
 
 
-def _digest(place: Shard, at: int, size: int) -> str:
-    """The SHA-256 of a part of a journal, as far as that is there; nothing where it can't be read."""
-    path = place.folder / JOURNAL
-    if place.login:
-        run = f"tail -c +{at + 1} {shlex.quote(str(path))} | head -c {size} | sha256sum"
-        return subprocess.run(["ssh", place.login, run], stdin=subprocess.DEVNULL, capture_output=True, text=True).stdout[:64]
-    try:
-        with open(path, "rb") as file:
-            file.seek(at)
-            return hashlib.sha256(file.read(size)).hexdigest()
-    except OSError:
-        return ""
+def _digest(place: Shard, start: int, end: int) -> str:
+    """The digest of a part of the journal that a leader has."""
+    if not place.login:
+        return digest(place.folder, start, end)
+    path = shlex.quote(str(place.folder / JOURNAL))
+    run = f"tail -c +{start + 1} {path} | head -c {end - start} | sha256sum"
+    return subprocess.run(["ssh", place.login, run], stdin=subprocess.DEVNULL, capture_output=True, text=True).stdout[:64]

@@ -2,10 +2,12 @@
 
 from __future__ import annotations
 
+import hashlib
 import io
 import mmap
 import struct
 from dataclasses import dataclass, field
+from itertools import islice
 from pathlib import Path
 from typing import BinaryIO, Iterable, Iterator, NamedTuple
 
@@ -15,6 +17,8 @@ from .program import JOURNAL, PAGES, Shard
 HEADER = b"TIMETRAVELTEXT\x00\x01"
 _OPEN = b"\xa5"
 _PAGE = 4_096
+#: So much is read at once of what is only counted in a digest.
+_PIECE = 1 << 20
 _ARRIVE, _DELETE, _PLAN, _BATCH, _MARK = 1, 2, 3, 4, 5
 #: The length of an entry, or of a change in a batch, its tag, and what follows it in an arrival and a deletion.
 _HEAD = struct.Struct(">IBIQ")
@@ -102,14 +106,15 @@ def _entries(folder: Path, texts: bool) -> Iterator[Entry]:
         raise InputError(str(path), error.strerror or str(error)) from None
 
 
-def reach(folder: Path, before: Reach = Reach()) -> Reach:
-    """How far the journal reaches, where it is known to reach so far; where there is none, as a new one."""
+def reach(folder: Path, before: Reach = Reach(), most: int | None = None) -> Reach:
+    """How far the journal reaches, where it is known to reach so far; where there is none, as a new one. Of the entries behind
+    those that are known, so many at most are looked at."""
     path, found = folder / JOURNAL, before
     try:
         with open(path, "rb") as file:
             file.seek(before.gate)
             is_new = path.stat().st_size <= len(HEADER) + 1
-            for entry in () if is_new else entries_from(file, before.gate, str(path), texts=False):
+            for entry in () if is_new else islice(entries_from(file, before.gate, str(path), texts=False), most):
                 times = [act.time for act in entry.acts or (entry,) if act.changes]
                 found = Reach(found.entries + 1, found.gate, entry.after, times[-1] if times else found.time)
     except FileNotFoundError:
@@ -117,6 +122,20 @@ def reach(folder: Path, before: Reach = Reach()) -> Reach:
     except OSError as error:
         raise InputError(str(path), error.strerror or str(error)) from None
     return found
+
+
+def digest(folder: Path, start: int, end: int) -> str:
+    """The SHA-256 of a part of the journal, as far as that is there; nothing where it can't be read."""
+    found = hashlib.sha256()
+    try:
+        with open(folder / JOURNAL, "rb") as file:
+            file.seek(start)
+            while start < end and (piece := file.read(min(_PIECE, end - start))):
+                found.update(piece)
+                start += len(piece)
+    except OSError:
+        return ""
+    return found.hexdigest()
 
 
 def bodies(folder: Path) -> Iterator[bytes]:
