@@ -394,7 +394,7 @@ class Stops(Followed):
         self.fill([Version(START + DAY, "first", "a text")])
         journal.write_bytes(b"x" + journal.read_bytes()[1:])
         said = self.follow("--every", "1s", status=1).stderr
-        self.assertIn("not an archive", said)
+        self.assertEqual(said, f"tt: {journal}: no archive's journal\n")
 
     def test_a_packet_that_cannot_be_taken(self) -> None:
         bad = "printf '\\0\\0\\0\\0\\0\\0\\0\\1\\0\\0\\0\\1x'"
@@ -462,7 +462,7 @@ class Apart(Followed):
         same, later, own = commands.arrive(1, START, b"The first."), *(commands.delete(1, START + days * DAY) for days in (2, 3))
         one, other = (commands.arrive(7, START + DAY, b"The bridge is %b." % word) for word in (b"closed for repairs until the end of the summer", b"open"))
         self.assert_apart(
-            same + one + later, same + other + own, "tt: from its byte 27 on LEADER has another entry 2, so one of the two archives went its own way",
+            same + one + later, same + other + own, "tt: from its byte 27 on LEADER has another entry 2, so one of the two archives went its own way or was damaged",
             "here   #7 at 2007-07-24: The bridge is open.", "there  #7 at 2007-07-24: The bridge is closed for repairs until the end of the …",
         )  # fmt: skip
         long = b"An \xc3\xa9t\xc3\xa9 of more of these: "  # the cut is in a character

@@ -193,7 +193,7 @@ class _Follower:
             return _Later(f"{self._leader} had another history for a moment, and has this one's now")
         where = f"{self._leader} has no" if found.place is None else f"from its byte {found.place} on {self._leader} has another"
         return ToolError(
-            f"{where} entry {found.number}, so one of the two archives went its own way, and nothing more is taken: whoever knows which "
+            f"{where} entry {found.number}, so one of the two archives went its own way or was damaged, and nothing more is taken: whoever knows which "
             "one is right has the other follow it anew, from an empty folder",
             found.shown,
         )

@@ -112,8 +112,10 @@ def reach(folder: Path, before: Reach = Reach(), most: int | None = None) -> Rea
     path, found = folder / JOURNAL, before
     try:
         with open(path, "rb") as file:
-            file.seek(before.gate)
             is_new = path.stat().st_size <= len(HEADER) + 1
+            if not is_new:
+                _test_header(file, path)
+            file.seek(before.gate)
             for entry in () if is_new else islice(entries_from(file, before.gate, str(path), texts=False), most):
                 times = [act.time for act in entry.acts or (entry,) if act.changes]
                 found = Reach(found.entries + 1, found.gate, entry.after, times[-1] if times else found.time)
@@ -203,9 +205,13 @@ def text_of(folder: Path, entry: Entry) -> bytes:
         raise InputError(str(path), error.strerror or str(error)) from None
 
 
-def _records(file: BinaryIO, path: Path, texts: bool) -> Iterator[Entry]:
+def _test_header(file: BinaryIO, path: Path) -> None:
     if file.read(len(HEADER)) != HEADER:
         raise InputError(str(path), "no archive's journal")
+
+
+def _records(file: BinaryIO, path: Path, texts: bool) -> Iterator[Entry]:
+    _test_header(file, path)
     return entries_from(file, len(HEADER), str(path), texts)
 
 
