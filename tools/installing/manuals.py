@@ -22,7 +22,7 @@ _ABOUT = {
     "tt_archive.5": "the files of an archive, the script and its replies",
 }
 _SYNOPSIS = {
-    "tt_archive.1": ["tt_archive < SCRIPT", "tt_archive --generate SEED --count COUNT", "tt_archive --export FROM"],
+    "tt_archive.1": ["tt_archive < SCRIPT", "tt_archive --generate SEED --count COUNT", "tt_archive --export FROM", "tt_archive --follow < PACKETS"],
     "tt_verify.1": ["tt_verify"],
     "tt.1": ["tt [-C FOLDER] [--program WORDS] [--wait TIME] [-q] COMMAND .."],
     "tt_archive.5": [],

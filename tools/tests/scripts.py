@@ -5,7 +5,7 @@
 
 A scenario is some runs on one archive, in a folder in memory where there is such a folder. After each run the program is to have
 shown what the model says, and its journal and the sublists of its plans are to have the model's bytes. Behind them come two exports,
-which are to show the model's packets. What is drawn depends on
+which are to show the model's packets, and archives that follow this one by them. What is drawn depends on
 the seed and the scenario's number alone. The alphabets of words, documents and times are small, so that most things meet. The
 letters of the words are in each version of Unicode that a program may have.
 """
@@ -20,7 +20,7 @@ import sys
 import tempfile
 from pathlib import Path
 
-from model import OPEN, PAGE, Archive, Choice, Differs, NotArchive, Outcome, read_journal, spell_journal, words_of
+from model import FOLLOW, OPEN, PAGE, Archive, Choice, Differs, NotArchive, Outcome, input_of, packets, read_journal, spell_journal, words_of
 
 MOST_SECONDS = 60
 #: Words as they are spelled; those of one row have one key.
@@ -356,7 +356,7 @@ class Folder:
         """The same of a command, with the script in a file as standard input, and with what else is given. (Where words stand in the
         script's place, it has them too.)"""
         path = self.path / "script"
-        path.write_bytes(script)
+        path.write_bytes(input_of(script))
         with path.open("rb") as source:
             streams = {"stdin": source, "stdout": subprocess.PIPE, "stderr": subprocess.PIPE, **given}
             ended = subprocess.run([*command, *words_of(script)], cwd=self.path, timeout=MOST_SECONDS, **streams)
@@ -421,6 +421,30 @@ def export_difference(folder: Folder, chance: random.Random) -> str:
     return ""
 
 
+def follow_difference(folder: Folder, chance: random.Random) -> str:
+    """How archives that follow this one differ from the model, and one that takes all of it from this one: twice, from a number on, and
+    what was cut or altered."""
+    entries, count = folder.archive.entries, len(folder.archive.entries)
+    whole, begin = packets(entries, 1), chance.randint(1, count + 2)
+    with Folder(folder.program) as follower:
+        for what, first in (("took", 1), ("had", 1), ("had", begin)):
+            if difference := follower.difference(FOLLOW + packets(entries, first)):
+                return f"a follower, from {first} on: {difference}"
+            wanted = b"".join(b"%b %d\n" % (what.encode(), number) for number in range(first, count + 1))
+            if follower.outcome != Outcome(wanted + b"end %d\n" % count, "", 0):
+                return f"a follower, from {first} on: {follower.outcome}"
+        if difference := folder.file_difference(*follower.files()):
+            return f"a follower's files, beside its leader: {difference}"
+    place, at = chance.randrange(len(whole) + 1), chance.randrange(max(1, len(whole)))
+    other = whole[:at] + bytes([chance.choice([0, 1, 2, 9, 0xFF, *(it ^ 1 for it in whole[at : at + 1])])]) + whole[at + 1 :]
+    for what, stream in (("from a number on", packets(entries, begin)), (f"cut at {place}", whole[:place]), (f"altered at {at}", other)):
+        with Folder(folder.program) as follower:
+            for again in (stream, whole):
+                if difference := follower.difference(FOLLOW + again):
+                    return f"a follower of packets {what}{' and then of all' if again is whole else ''}: {difference}"
+    return ""
+
+
 def journal_difference(folder: Folder, journal: bytes) -> str:
     """How the program's load of another journal differs from the model's, for an export and for a script."""
     folder.journal.write_bytes(journal)
@@ -429,7 +453,7 @@ def journal_difference(folder: Folder, journal: bytes) -> str:
         refused = None
     except NotArchive as place:
         refused = Outcome(b"", f"tt_archive: not an archive at byte {place} of the journal\n", 3)
-    for script in (b"--export 1\n", b"arrive 9 1099511627775 3\nred\n"):
+    for script in (b"--export 1\n", FOLLOW, b"arrive 9 1099511627775 3\nred\n"):
         outcome, wanted = folder.run(script), refused or folder.archive.run(script, Choice([], b""))
         if outcome != wanted:
             return f"of {script!r} the program makes {outcome}, and not {wanted}"
@@ -450,6 +474,8 @@ def scenario_difference(program: str, seed: int, number: int, is_long: bool = Fa
             if difference := folder.difference(scripts[-1]):
                 return difference, scripts
         if difference := export_difference(folder, random.Random(f"export {seed} {number}")):
+            return difference, scripts
+        if difference := follow_difference(folder, random.Random(f"follow {seed} {number}")):
             return difference, scripts
         if writer.is_one_in(2):
             scripts.append(altered(chance, folder.journal.read_bytes()))

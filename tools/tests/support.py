@@ -30,7 +30,7 @@ from tt_archive_tools.replies import Ok, Text  # noqa: E402
 T = TypeVar("T")
 DAY = 86_400
 
-#: What a program may not answer yet: a script, and the reply of one that does.
+#: What a program may not answer yet: a script, and the reply of one that does; and the words that it is given.
 _PROBES = {
     "utf8": (b"arrive 1 1 2\n\xc3\xa9\n", b"ok 1\n"),
     "queries": (b"arrive 1 1 3\na b\nfind 1 a not c\n", b"ok 1\nhit 1 1\nend 1 read 1\n"),
@@ -45,6 +45,7 @@ _PROBES = {
     "shares": (b"share 1/1 a\n", b"no 13 UnknownWord in 1\n"),
     "mark": (b"format 2\n", b"ok 1\n"),
     "batches": (b"format 2\nbatch 1\narrive 1 1 1\na\n", b"ok 1\nok 2\n"),
+    "follow": (b"", b"end 0\n", "--follow"),
 }
 
 
@@ -114,9 +115,9 @@ def changes_of(journal: bytes) -> list[tuple[int, int, bytes, bool]]:
 @functools.cache
 def answers(what: str) -> bool:
     """Whether the program under test answers this."""
-    script, reply = _PROBES[what]
+    script, reply, *words = _PROBES[what]
     with tempfile.TemporaryDirectory() as folder:
-        return subprocess.run(find_program(None), cwd=folder, input=script, capture_output=True).stdout == reply
+        return subprocess.run([*find_program(None), *words], cwd=folder, input=script, capture_output=True).stdout == reply
 
 
 def needs(*what: str) -> Callable[[T], T]:

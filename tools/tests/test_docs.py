@@ -49,6 +49,7 @@ def missing(story: str) -> list[str]:
         "propose": r"tt -C archive tradeoff",
         "shares": r"tt -C archive share",
         "sublists": r"tt -C archive plan",
+        "follow": r"tt -C \S+ follow",
     }
     return [what for what, words in wanted.items() if re.search(words, story) and not answers(what)]
 

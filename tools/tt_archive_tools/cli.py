@@ -19,7 +19,7 @@ Kinds: TypeAlias = "argparse._SubParsersAction[argparse.ArgumentParser]"
 
 _ABOUT = """Fills a time-travel text archive from what keepers have, asks it by names and dates, and draws what it
 holds. The tools write scripts for tt_archive and read its replies."""
-_STOPPED = "stopped; what was acknowledged is in the archive, and the same import goes on from there"
+_STOPPED = "stopped; what was acknowledged is in the archive, and the same command goes on from there"
 _TIME = "a date (2007, 2007-07, 2007-07-23, 2007-07-23T12:30:00, all UTC; 2007-07-23T14:30:00+02:00), @SECONDS, or now"
 
 
@@ -72,6 +72,7 @@ def _parser() -> argparse.ArgumentParser:
     _add_documents(kinds)
     _add_pictures(kinds)
     _add_serving(kinds)
+    _add_following(kinds)
     _add_cluster(kinds.add_parser("cluster", help="keep the archives of a split collection open on the workers of a Dask cluster"))
     return parser
 
@@ -98,7 +99,8 @@ def _add_filling(kinds: Kinds) -> None:
     shard.add_argument("into", type=Path, metavar="INTO")
     shard.add_argument("--empty", action="store_true", help="make empty archives, to import into")
     _add_format(shard)
-    _command(kinds, "status", "telling.status", "tell what the archive holds")
+    status = _command(kinds, "status", "telling.status", "tell what the archive holds")
+    status.add_argument("folder", type=Path, metavar="FOLDER", nargs="?", help="the archive's folder, where -C doesn't name it")
     _command(kinds, "verify", "telling.verify", "check what the plans store by the archive's own texts")
 
 
@@ -186,6 +188,14 @@ def _add_serving(kinds: Kinds) -> None:
     serve.add_argument("--port", type=int, default=8080, metavar="N", help="the port (8080); 0 takes a free one")
     serve.add_argument("--bind", default="127.0.0.1", metavar="ADDRESS", help="the address (127.0.0.1, which only this machine reaches)")
     serve.add_argument("--name", action="append", default=[], metavar="HOST", help="a name under which browsers may ask")
+
+
+def _add_following(kinds: Kinds) -> None:
+    follow = _command(kinds, "follow", "following.follow", "follow another archive: take the entries that this one lacks, and the tables beside them")
+    follow.add_argument("leader", nargs="+", metavar="LEADER", help="that archive's folder; behind `ssh HOST` one on another machine")
+    follow.add_argument("--every", metavar="TIME", help="do so again every so often, such as 60s, until it is stopped (once)")
+    export = _command(kinds, "export", "exporting.export", "write the tables and the entries from a number on for a `tt follow`, which runs this at its leader")
+    export.add_argument("number", type=int, metavar="FROM")
 
 
 def _add_cluster(parser: argparse.ArgumentParser) -> None:

@@ -2,9 +2,12 @@
 
 from __future__ import annotations
 
+import hashlib
+import io
 import mmap
 import struct
 from dataclasses import dataclass, field
+from itertools import islice
 from pathlib import Path
 from typing import BinaryIO, Iterable, Iterator, NamedTuple
 
@@ -14,6 +17,8 @@ from .program import JOURNAL, PAGES, Shard
 HEADER = b"TIMETRAVELTEXT\x00\x01"
 _OPEN = b"\xa5"
 _PAGE = 4_096
+#: So much is read at once of what is only counted in a digest.
+_PIECE = 1 << 20
 _ARRIVE, _DELETE, _PLAN, _BATCH, _MARK = 1, 2, 3, 4, 5
 #: The length of an entry, or of a change in a batch, its tag, and what follows it in an arrival and a deletion.
 _HEAD = struct.Struct(">IBIQ")
@@ -74,16 +79,79 @@ class Entry(NamedTuple):
         return self.tag == _MARK
 
 
+class Reach(NamedTuple):
+    """How far a journal reaches: how many entries it has, where the gates of the last one and behind it stand, and the last
+    time of a change."""
+
+    entries: int = 0
+    last: int = len(HEADER)
+    gate: int = len(HEADER)
+    time: int | None = None
+
+
 def entries(folder: Path, texts: bool) -> Iterator[Entry]:
     """The entries in order, and of a batch its changes. Without texts only the heads are read."""
+    for entry in _entries(folder, texts):
+        yield from entry.acts or (entry,)
+
+
+def _entries(folder: Path, texts: bool) -> Iterator[Entry]:
+    """The same, and of a batch itself."""
     path = folder / JOURNAL
     try:
         with open(path, "rb") as file:
             if path.stat().st_size > len(HEADER) + 1:
-                for entry in _records(file, path, texts):
-                    yield from entry.acts or (entry,)
+                yield from _records(file, path, texts)
     except OSError as error:
         raise InputError(str(path), error.strerror or str(error)) from None
+
+
+def reach(folder: Path, before: Reach = Reach(), most: int | None = None) -> Reach:
+    """How far the journal reaches, where it is known to reach so far; where there is none, as a new one. Of the entries behind
+    those that are known, so many at most are looked at."""
+    path, found = folder / JOURNAL, before
+    try:
+        with open(path, "rb") as file:
+            is_new = path.stat().st_size <= len(HEADER) + 1
+            if not is_new:
+                _test_header(file, path)
+            file.seek(before.gate)
+            for entry in () if is_new else islice(entries_from(file, before.gate, str(path), texts=False), most):
+                times = [act.time for act in entry.acts or (entry,) if act.changes]
+                found = Reach(found.entries + 1, found.gate, entry.after, times[-1] if times else found.time)
+    except FileNotFoundError:
+        return Reach()
+    except OSError as error:
+        raise InputError(str(path), error.strerror or str(error)) from None
+    return found
+
+
+def digest(folder: Path, start: int, end: int) -> str:
+    """The SHA-256 of a part of the journal, as far as that is there; nothing where it can't be read."""
+    found = hashlib.sha256()
+    try:
+        with open(folder / JOURNAL, "rb") as file:
+            file.seek(start)
+            while start < end and (piece := file.read(min(_PIECE, end - start))):
+                found.update(piece)
+                start += len(piece)
+    except OSError:
+        return ""
+    return found.hexdigest()
+
+
+def bodies(folder: Path) -> Iterator[bytes]:
+    """The entries as the bytes that they are."""
+    with open(folder / JOURNAL, "rb") as file:
+        file.seek(len(HEADER))
+        while file.read(1) == _OPEN:
+            yield file.read(int.from_bytes(file.read(4), "big"))
+
+
+def entry_of(body: bytes) -> Entry:
+    """The entry that so many bytes are."""
+    [entry] = entries_from(io.BytesIO(_OPEN + len(body).to_bytes(4, "big") + body), 0, "an entry", texts=True)
+    return entry
 
 
 def heads(folder: Path) -> Iterator[tuple[int, int, bool]]:
@@ -137,9 +205,13 @@ def text_of(folder: Path, entry: Entry) -> bytes:
         raise InputError(str(path), error.strerror or str(error)) from None
 
 
-def _records(file: BinaryIO, path: Path, texts: bool) -> Iterator[Entry]:
+def _test_header(file: BinaryIO, path: Path) -> None:
     if file.read(len(HEADER)) != HEADER:
         raise InputError(str(path), "no archive's journal")
+
+
+def _records(file: BinaryIO, path: Path, texts: bool) -> Iterator[Entry]:
+    _test_header(file, path)
     return entries_from(file, len(HEADER), str(path), texts)
 
 
@@ -216,6 +288,8 @@ def live_plans(folder: Path) -> dict[str, StoredPlan]:
 class Summary:
     """Counts of a journal's entries."""
 
+    #: A batch is one of them.
+    entries: int = 0
     arrivals: int = 0
     deletions: int = 0
     plans: int = 0
@@ -230,6 +304,7 @@ class Summary:
 
     def add(self, other: Summary) -> None:
         """Takes in the counts of an archive of other documents."""
+        self.entries += other.entries
         self.arrivals += other.arrivals
         self.deletions += other.deletions
         self.plans += other.plans
@@ -261,17 +336,19 @@ def _summary(folder: Path) -> Summary:
     alive: dict[int, bool] = {}
     if not found.journal:
         return found
-    for entry in entries(folder, texts=False):
+    for entry in _entries(folder, texts=False):
+        found.entries += 1
         if entry.plan:
             found.plans += 1
             found.live[entry.plan.word] = [entry.plan]
-        if not entry.changes:
-            continue
-        found.arrivals += entry.arrives
-        found.deletions += entry.deletes
-        alive[entry.doc] = entry.arrives
-        found.first = entry.time if found.first is None else found.first
-        found.last = entry.time
+        for act in entry.acts or (entry,):
+            if not act.changes:
+                continue
+            found.arrivals += act.arrives
+            found.deletions += act.deletes
+            alive[act.doc] = act.arrives
+            found.first = act.time if found.first is None else found.first
+            found.last = act.time
     found.documents = len(alive)
     found.alive = sum(alive.values())
     return found

@@ -45,7 +45,7 @@ def shards_of(folder: Path) -> list[Shard]:
 
 
 def write_table(folder: Path, table: Sequence[Places]) -> None:
-    _replace(folder / SHARDS, ("\t".join(_written(places, folder)) for places in table))
+    replace_file(folder / SHARDS, _lines("\t".join(_written(places, folder)) for places in table))
 
 
 def level_copies(folder: Path) -> set[tuple[int, Shard]]:
@@ -61,7 +61,7 @@ def level_copies(folder: Path) -> set[tuple[int, Shard]]:
 
 def note_level(folder: Path, copies: Iterable[tuple[int, Shard]]) -> None:
     """Returns when it is durable that these copies, and no others, have all that was acknowledged."""
-    _replace(folder / LEVEL, ("\t".join([str(number), *_written([copy], folder)]) for number, copy in copies))
+    replace_file(folder / LEVEL, _lines("\t".join([str(number), *_written([copy], folder)]) for number, copy in copies))
 
 
 def _places(line: str, folder: Path, at: str) -> Places:
@@ -90,11 +90,15 @@ def _written(places: Iterable[Shard], folder: Path) -> list[str]:
     return fields if fields[-1] else fields[:-1]
 
 
-def _replace(path: Path, lines: Iterable[str]) -> None:
-    """Puts lines in the place of a file, all or none of them, and returns when that is durable."""
+def _lines(lines: Iterable[str]) -> bytes:
+    return "".join(f"{line}\n" for line in lines).encode()
+
+
+def replace_file(path: Path, content: bytes) -> None:
+    """Puts bytes in the place of a file, all or none of them, and returns when that is durable."""
     new = path.with_name(f".{path.name}.new")
-    with open(new, "w") as file:
-        file.writelines(f"{line}\n" for line in lines)
+    with open(new, "wb") as file:
+        file.write(content)
         file.flush()
         os.fsync(file.fileno())
     os.replace(new, path)

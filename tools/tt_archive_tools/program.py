@@ -18,8 +18,9 @@ from .replies import Reply, ReplyReader
 VARIABLE = "TT_ARCHIVE"
 #: The files of an archive.
 JOURNAL, PAGES = "archive.journal", "archive.pages"
-#: The status of a program that found another at work in its folder, and did nothing.
-AT_WORK = 11
+#: The status of a program that doesn't know the words it was given, and of one that found another at work in its folder. Neither
+#: did anything.
+USAGE, AT_WORK = 2, 11
 #: Where `tools/install` puts the program, and where the repository builds it.
 _INSTALLED = Path(__file__).resolve().parents[1] / "tt_archive"
 _BUILT = Path(__file__).resolve().parents[2] / "crates" / "tt_archive" / "out" / "tt_archive"

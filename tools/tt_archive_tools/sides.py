@@ -319,9 +319,14 @@ def replies_of(link: Link) -> Iterator[Reply]:
     if wrong or link.ended:
         link.end_input()
         status, said = link.wait()
-        if status == AT_WORK:
-            raise InUse(f"another program is at work in {link.shard}, which no tt of this folder started")
-        raise ProgramFailed(f"{link.shard}: {explained_end(End(link.shard, status, said or wrong))}")
+        raise failed_end(End(link.shard, status, said or wrong))
+
+
+def failed_end(end: End) -> ToolError:
+    """Why a program ended before it was told to."""
+    if end.status == AT_WORK:
+        return InUse(f"another program is at work in {end.shard}, which no tt of this folder started")
+    return ProgramFailed(f"{end.shard}: {explained_end(end)}")
 
 
 def explained_end(end: End) -> str:

@@ -21,6 +21,7 @@ _MOST_PLANS = 20
 
 
 def status(options: argparse.Namespace) -> None:
+    options.archive = options.folder or options.archive
     with archive_of(options, Use.ASKS) as collection:
         held = summary(collection.shards)
         names = len(collection.names)
@@ -35,6 +36,8 @@ def status(options: argparse.Namespace) -> None:
     print("entries    " + ", ".join(counted(count, what) for count, what in kinds))
     if held.first is not None and held.last is not None:
         print(f"times      {show_time(held.first)} to {show_time(held.last)}")
+    if len(shards) == 1 and held.entries:
+        print(f"last       entry {held.entries}" + ("" if held.last is None else f", of {show_time(held.last)}"))
     print(f"files      {counted(held.journal, 'byte')} of journal, {counted(held.pages, 'byte')} of pages")
     for word, plans in list(held.live.items())[:_MOST_PLANS]:
         print(f"plan       {one_line(word)} {_live(plans)}")

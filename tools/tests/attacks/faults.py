@@ -14,7 +14,7 @@ from scripts import Folder
 
 from attacks.rig import AUDIT_FAULT, BATCH_SCRIPT, BROKEN_SCRIPT, DISK_FAULT, EXPORT, EXPORTS, JOB_SCRIPT, NO_LOCKS, REFUSED, RUNS
 from attacks.rig import SAMPLE, SCRIPT, SINK_FAULT, SOURCE_FAULT
-from attacks.rig import Whole, expect, is_export, kinds, nothing, some
+from attacks.rig import Whole, expect, follows, is_export, is_follow, kinds, nothing, some
 
 FILES = [".", "archive.journal", "archive.pages"]
 CALL = re.compile(r"^\d+ +(\w+)\(", re.MULTILINE)
@@ -73,14 +73,15 @@ def _nth(fault: str, nth: int) -> str:
 def _told(fill: Callable[[Folder], None], script: bytes) -> str:
     """What a run is on, in words."""
     told = {JOB_SCRIPT: ", with plans in steps", BROKEN_SCRIPT: ", with a plan in steps that is left"}
-    kind = {BATCH_SCRIPT: ", with batches", SAMPLE: ", by a sample", **told}.get(script, ", by an export" if is_export(script) else "")
+    other = ", by an export" if is_export(script) else ", by a follower" if is_follow(script) else ""
+    kind = {BATCH_SCRIPT: ", with batches", SAMPLE: ", by a sample", **told}.get(script, other)
     return ("a new archive" if fill is nothing else "an archive with plans") + kind
 
 
 def fail_calls(program: str, audit: str, *, is_all: bool) -> str:
     """Each call on the files fails once; the run ends as it is to, and nothing is lost. An export whose sync fails shows nothing."""
     told, tracer = Counter[str](), Tracer(program, FILES)
-    for fill, script in [*RUNS, *EXPORTS, REFUSED]:
+    for fill, script in [*RUNS, *EXPORTS, *follows(program), REFUSED]:
         whole = Whole.of(program, fill, script)
         with Folder(program) as first:
             whole.fill(first)
@@ -97,10 +98,10 @@ def fail_calls(program: str, audit: str, *, is_all: bool) -> str:
 
 
 def fail_random_calls(program: str, audit: str, *, is_all: bool) -> str:
-    """Some calls of random scripts on random archives fail."""
+    """Some calls of random scripts on random archives fail, and of archives that follow one with such scripts."""
     tracer, scenarios = Tracer(program, FILES), 200 if is_all else 15
-    for number in range(scenarios):
-        whole = Whole.random(program, number)
+    for number, is_followed in product(range(scenarios), (False, True)):
+        whole = Whole.random(program, number, follows=is_followed)
         with Folder(program) as first:
             whole.fill(first)
             faults = list(tracer.faults(first, whole.outcome, 1, whole.script))
@@ -108,15 +109,16 @@ def fail_random_calls(program: str, audit: str, *, is_all: bool) -> str:
             with Folder(program) as folder:
                 whole.fill(folder)
                 outcome = tracer.run_with(folder, name, fault, whole.script)
-                what = f"{name} with {fault} in the random script {number}, {whole.script!r}"
+                what = f"{name} with {fault} in the random {'packets' if is_followed else 'script'} {number}, {whole.script!r}"
                 whole.check_cut(folder, outcome, [NO_LOCKS if name == "flock" else DISK_FAULT], what)
-    return f"{scenarios * FAULTS_OF_SCRIPT} calls that fail in {scenarios} random scripts"
+    return f"{2 * scenarios * FAULTS_OF_SCRIPT} calls that fail in {scenarios} random scripts and in as many followers of such"
 
 
 def fail_streams(program: str, audit: str) -> str:
     """Each call on the standard streams fails once."""
     count, streams = 0, [("script", READS, SOURCE_FAULT), ("shown", WRITES, SINK_FAULT)]
     wholes = [Whole.of(program, some), Whole.of(program, nothing, SAMPLE), Whole.of(program, kinds, EXPORT)]
+    wholes += [Whole.of(program, *it) for it in follows(program)[1:]]
     for whole, (stream, calls, allowed) in product(wholes, streams):
         tracer = Tracer(program, [stream])
         with Folder(program) as first:
@@ -155,7 +157,7 @@ def die_at_calls(program: str, audit: str, *, is_all: bool) -> str:
     """The program is killed at each call on the files that makes, changes or syncs one, before the call is made; and an export at each
     call on its output too. Behind some of these deaths the load that follows is killed so."""
     count = again = 0
-    for fill, script in [*RUNS, *EXPORTS, REFUSED]:
+    for fill, script in [*RUNS, *EXPORTS, *follows(program), REFUSED]:
         whole, tracer = Whole.of(program, fill, script), Tracer(program, [*FILES, "shown"] if is_export(script) else FILES)
         with Folder(program) as first:
             whole.fill(first)

@@ -12,7 +12,7 @@ from typing import Iterator
 from model import OPEN, Outcome, read_journal
 from scripts import Folder
 
-from attacks.rig import RUNS, Whole, expect
+from attacks.rig import RUNS, Whole, expect, follows
 
 NAMES = [".", "archive.journal", "archive.pages"]
 CALLS = "openat,fcntl,pwrite64,ftruncate,fsync,fdatasync,write"
@@ -99,8 +99,9 @@ class Record:
 def lose_writes(program: str, audit: str, *, is_all: bool) -> str:
     """The power fails behind each call of some runs, and of some of what is left once more, behind each call of the load that follows."""
     chance, moments, images, again = random.Random(7), 0, 0, 0
-    runs = [Whole.of(program, *run) for run in RUNS]
+    runs = [Whole.of(program, *run) for run in [*RUNS, *follows(program)]]
     scripts = [*runs, *(Whole.random(program, number) for number in range(10 if is_all else 3))]
+    scripts += [Whole.random(program, number, follows=True) for number in range(10 if is_all else 1)]
     for whole in scripts:
         with Folder(program) as first:
             whole.fill(first)
@@ -116,7 +117,7 @@ def lose_writes(program: str, audit: str, *, is_all: bool) -> str:
                     again += 0 if images % (7 if is_all else 300) else _fail_again(program, whole, record, kind, chance)
             is_read = [disk.left("new", chance) for disk in record.disks.values()] == [path.read_bytes() for path in files]
             expect(record.shown == whole.shown and is_read, "the record has not what the files and the replies are")
-    told = f"{images} pairs of files that power failures behind {moments} calls of {len(scripts)} scripts may leave"
+    told = f"{images} pairs of files that power failures behind {moments} calls of {len(scripts)} runs may leave"
     return f"{told}, and {again} that others behind the calls of a load may leave of them"
 
 

@@ -12,7 +12,7 @@ from pathlib import Path
 from model import Outcome
 from scripts import Folder
 
-from attacks.rig import EXPORT, NO_MEMORY, SAMPLE, Whole, expect, kinds, nothing, some
+from attacks.rig import EXPORT, NO_MEMORY, SAMPLE, Whole, expect, follows, kinds, nothing, some
 
 SOURCE = Path(__file__).with_name("refuse.c")
 MOST = 2_000
@@ -60,9 +60,11 @@ def refuse_memory(program: str, audit: str, *, is_all: bool) -> str:
         if library is None:
             return "want of memory was left out, since there is no C compiler"
         refuser = Refuser(program, library)
-        told = [_refuse(refuser, Whole.of(program, *run), is_all) for run in ((some, LONG_SCRIPT), (nothing, SAMPLE), (kinds, EXPORT))]
+        runs = ((some, LONG_SCRIPT), (nothing, SAMPLE), (kinds, EXPORT), follows(program)[1])
+        told = [_refuse(refuser, Whole.of(program, *run), is_all) for run in runs]
         audits = _refuse_audits(program, Refuser(audit, library))
-    return f"{told[0]} the run ended, of a sample {told[1]} it ended, of an export {told[2]} it ended, and {audits} of audits"
+    others = f"of a sample {told[1]} it ended, of an export {told[2]} it ended, of a follower {told[3]} it ended"
+    return f"{told[0]} the run ended, {others}, and {audits} of audits"
 
 
 def _refuse(refuser: Refuser, whole: Whole, is_all: bool) -> str:

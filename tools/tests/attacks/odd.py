@@ -11,11 +11,11 @@ from itertools import product
 from pathlib import Path
 from typing import Callable
 
-from model import HEADER, Choice, Outcome, words_of
+from model import FOLLOW, HEADER, Choice, Outcome, packets
 from scripts import Folder
 
 from attacks.rig import AUDIT_FAULT, DISK_FAULT, EXPORT, NEXT_SCRIPT, RUNS, SAMPLE, SCRIPT, SINK_FAULT, SOURCE_FAULT
-from attacks.rig import Whole, ends, expect, kinds, nothing, some
+from attacks.rig import Whole, ends, expect, following, follows, kinds, nothing, some
 
 DONE = Outcome(b"", "", 0)
 #: The length of a file that is nearly nothing but a hole.
@@ -38,7 +38,7 @@ def odd_files(program: str, audit: str) -> str:
                 if name == "archive.pages":
                     folder.journal.write_bytes(HEADER + b"\0")
                 make(folder.path / name)
-                for script in (EXPORT, PLANNED):
+                for script in (EXPORT, FOLLOW, PLANNED):
                     outcome = folder.run(script)
                     is_told = (outcome.status, outcome.line) == (DISK_FAULT.status, DISK_FAULT.line)
                     expect(is_told and (script == PLANNED or not outcome.shown), f"{name} is {what}: {outcome} of {script!r}")
@@ -51,7 +51,7 @@ def odd_files(program: str, audit: str) -> str:
                     path.resolve().touch()
             told, wanted = ends([audit], folder.path), Outcome(b"sound 0 0\n", "", 0) if what == "a link to a file" else AUDIT_FAULT
             expect(told == wanted, f"an audit where each file is {what}: {told}")
-            for script in (EXPORT, SCRIPT, EXPORT, NEXT_SCRIPT):
+            for script in (EXPORT, FOLLOW, SCRIPT, EXPORT, NEXT_SCRIPT):
                 expect(not (difference := folder.difference(script)), f"each file is {what}: {difference}")
             expect(folder.journal.is_symlink() and folder.journal.resolve().is_file(), f"the journal is no more {what}")
     return f"{2 * len(refused)} files that are none, and 2 links to files"
@@ -64,7 +64,7 @@ def odd_folders(program: str, audit: str) -> str:
         gone.mkdir()
         outcome = ends([program], gone, preexec_fn=gone.rmdir)
         expect(outcome == DISK_FAULT, f"a program in a folder that was deleted: {outcome}")
-    wholes, limits = [Whole.of(program, some), Whole.of(program, kinds, EXPORT)], range(4, 9)
+    wholes, limits = [Whole.of(program, *run) for run in ((some, SCRIPT), (kinds, EXPORT), follows(program)[1])], range(4, 9)
     for whole, limit in product(wholes, limits):  # (3 are the streams, and what loads the program takes another)
         with Folder(program) as folder:
             whole.fill(folder)
@@ -92,8 +92,9 @@ def sparse_files(program: str, audit: str) -> str:
         folder.was_cut = True
         for path in (folder.journal, folder.pages):
             os.truncate(path, SPARSE)
-        outcome = folder.run(EXPORT)
-        expect(outcome == folder.archive.run(EXPORT, Choice([], b"")), f"an export of an archive with a hole of 3 GB behind it: {outcome}")
+        for script in (EXPORT, FOLLOW + packets(folder.archive.entries, 1)):
+            outcome = folder.run(script)
+            expect(outcome == folder.archive.run(script, Choice([], b"")), f"an export, or a follower, with a hole of 3 GB behind its files: {outcome}")
         outcome = folder.run(NEXT_SCRIPT)
         with folder.journal.open("rb") as journal, folder.pages.open("rb") as pages:
             difference = folder.difference_of(NEXT_SCRIPT, outcome, journal.read(1 << 16), pages.read(1 << 16))
@@ -109,7 +110,7 @@ def sparse_files(program: str, audit: str) -> str:
 def odd_streams(program: str, audit: str) -> str:
     """Streams that can't be read or written, or are closed. What was acknowledged stays. A sample and an export don't ask for their
     input."""
-    wholes = Whole.of(program, some), Whole.of(program, nothing, SAMPLE), Whole.of(program, kinds, EXPORT)
+    wholes = [Whole.of(program, *run) for run in ((some, SCRIPT), (nothing, SAMPLE), (kinds, EXPORT), follows(program)[1])]
     reader, writer = os.pipe()
     os.close(reader)
     root = os.open("/", os.O_RDONLY)
@@ -122,7 +123,7 @@ def odd_streams(program: str, audit: str) -> str:
             ("nobody reads standard output", {"stdout": writer}, SINK_FAULT),
         ]
         for whole, (what, streams, wanted) in product(wholes, tries):
-            wanted = whole.outcome if words_of(whole.script) and "stdin" in streams else wanted
+            wanted = wanted if whole.reads or "stdin" not in streams else whole.outcome
             with Folder(program) as folder:
                 whole.fill(folder)
                 outcome = folder.run_as([program], whole.script, **streams)
@@ -136,18 +137,18 @@ def odd_streams(program: str, audit: str) -> str:
         **{"<&- 2>&-": Outcome(b"", "", 5), ">&- 2>&-": Outcome(b"", "", 6), "<&- >&- 2>&-": Outcome(b"", "", 5)},
     }
     for whole, words in product(wholes, closed):
-        wanted = closed.get(words.removeprefix("<&-").lstrip() if words_of(whole.script) else words, DONE)
+        wanted = closed.get(words if whole.reads else words.removeprefix("<&-").lstrip(), DONE)
         with Folder(program) as folder:
             whole.fill(folder)
             outcome = folder.run_as(["/bin/sh", "-c", f'exec "$0" "$@" {words}', program], whole.script)
             whole.check_cut(folder, outcome, [wanted], f"a program with {words}")
-    return f"{len(tries) + len(closed)} streams that can't be used, each by a script, by a sample and by an export"
+    return f"{len(tries) + len(closed)} streams that can't be used, each by a script, by a sample, by an export and by a follower"
 
 
 def full_disks(program: str, audit: str, *, is_all: bool) -> str:
     """Files that may not grow beyond each size in turn, and where a file system can be mounted, small disks."""
     count = 0
-    for fill, script in RUNS:
+    for fill, script in [*RUNS, *follows(program)[1:]]:
         whole = Whole.of(program, fill, script)
         with Folder(program) as folder:
             whole.fill(folder)
@@ -178,7 +179,8 @@ MANY_PAGES = [ARRIVALS + b"plan red guarantee 1/1\n%b red guarantee 3/2\nfind 20
 def _small_disks(program: str) -> str:
     """Small disks, on which there is no room for all."""
     sizes, faults = range(4_096, 300_000, 12_288), 0
-    for whole, size in product([Whole.of(program, nothing, script) for script in MANY_PAGES], sizes):
+    scripts = [*MANY_PAGES, following(program, lambda leader: expect(not leader.difference(MANY_PAGES[0]), "plans of many pages"))]
+    for whole, size in product([Whole.of(program, nothing, script) for script in scripts], sizes):
         with Folder(program) as folder:
             disk = folder.path / "disk"
             disk.mkdir()
@@ -197,4 +199,4 @@ def _small_disks(program: str) -> str:
             saved = Folder(program, folder.path / "saved")
             with saved:
                 whole.check_next(saved, outcome.shown, what)
-    return f"and {len(MANY_PAGES) * len(sizes)} small disks, {faults} of them too small"
+    return f"and {len(scripts) * len(sizes)} small disks, {faults} of them too small"

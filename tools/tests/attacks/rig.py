@@ -9,9 +9,9 @@ import re
 import subprocess
 from dataclasses import dataclass
 from pathlib import Path
-from typing import Callable
+from typing import Callable, Sequence
 
-from model import HEADER, Archive, NotArchive, Outcome, words_of
+from model import FOLLOW, HEADER, Archive, NotArchive, Outcome, packets, words_of
 from scripts import MOST_SECONDS, Folder, Writer
 
 #: Changes of each kind and questions. No text of it has a line that looks like a reply.
@@ -165,6 +165,8 @@ plan red guarantee 3/2
 arrive 4294967295 9 4
 \xf0\x9f\x8c\x89
 """
+#: Behind a word in many documents: a plan of many pages, one that replaces a plan, and a change.
+STEPS_SCRIPT = b"plan red guarantee 1/1\nplan blue space 2/1 uniform\ndelete 10 28\n"
 LONG_TEXT = b"arrive 9 10 300000\n" + b"red " + b"." * 299_996 + b"\n"
 #: Exports of all entries, and of those from one on that stands amid the others.
 EXPORT, EXPORT_REST = b"--export 1\n", b"--export 8\n"
@@ -185,6 +187,10 @@ def is_export(script: bytes) -> bool:
     return words_of(script)[:1] == ["--export"]
 
 
+def is_follow(script: bytes) -> bool:
+    return script.startswith(FOLLOW)
+
+
 class Wrong(Exception):
     """Something isn't as it is to be."""
 
@@ -203,7 +209,7 @@ def ends(command: list[str], folder: Path, **streams: object) -> Outcome:
 
 def acknowledged(shown: bytes) -> int:
     """How many entries the replies that are whole acknowledge."""
-    replies = re.findall(rb"^(?:ok|plan|done) (\d+)\b.*\n", shown, re.MULTILINE)
+    replies = re.findall(rb"^(?:ok|plan|done|took) (\d+)\b.*\n", shown, re.MULTILINE)
     return int(replies[-1]) if replies else 0
 
 
@@ -228,19 +234,26 @@ class Whole:
             return cls(again, script, folder.outcome, folder.archive.entries, before, files)
 
     @classmethod
-    def random(cls, program: str, number: int) -> Whole:
-        """A run of a random script on an archive that another one made. It may be broken."""
+    def random(cls, program: str, number: int, *, follows: bool = False) -> Whole:
+        """A run of a random script on an archive that another one made. It may be broken. Or the archive follows one that goes on by this
+        script."""
         writer = Writer(random.Random(f"whole {number}"))
         before, script = writer.first_script() + writer.script(12), writer.script(20)
 
-        def fill(folder: Folder) -> None:
-            expect(not (difference := folder.difference(before)), f"the script {before!r}: {difference}")
+        def fill(folder: Folder, scripts: Sequence[bytes] = (before,)) -> None:
+            for each in scripts:
+                expect(not (difference := folder.difference(each)), f"the script {each!r}: {difference}")
 
-        return cls.of(program, fill, script)
+        return cls.of(program, fill, following(program, lambda leader: fill(leader, (before, script))) if follows else script)
 
     @property
     def shown(self) -> bytes:
         return self.outcome.shown
+
+    @property
+    def reads(self) -> bool:
+        """Whether such a run reads its input."""
+        return not words_of(self.script) or is_follow(self.script)
 
     def check_cut(self, folder: Folder, outcome: Outcome, allowed: list[Outcome], what: str) -> None:
         """What holds after a run of the script that may have been cut short: what it showed is a front of the replies, its end is one
@@ -248,7 +261,7 @@ class Whole:
         expect(self.shown.startswith(outcome.shown), f"{what}: shows {outcome.shown!r}, and not a front of {self.shown!r}")
         ends_so = outcome == self.outcome or any((outcome.status, outcome.line) == (it.status, it.line) for it in allowed)
         expect(ends_so, f"{what}: ends with {outcome.status} and {outcome.line!r}, having shown {outcome.shown!r}")
-        expect(not words_of(self.script) or folder.pulled == 0, f"{what}: pulls {folder.pulled} bytes")
+        expect(self.reads or folder.pulled == 0, f"{what}: pulls {folder.pulled} bytes")
         expect(not is_export(self.script) or self.is_spared(folder), f"{what}: an export changes a file")
         self.check_next(folder, outcome.shown, what)
 
@@ -260,7 +273,7 @@ class Whole:
     def counts(self, shown: bytes) -> tuple[int, int]:
         """How many entries there are at least and at most where this was shown. (A sample acknowledges all at once, by its lines; an
         export finds and leaves the same.)"""
-        if words_of(self.script):
+        if not self.reads:
             return len(self.entries) if shown else self.entries_before, len(self.entries)
         count = max(self.entries_before, acknowledged(shown))
         return count, count + 1
@@ -282,6 +295,8 @@ class Whole:
             expect(not difference, f"{what}: in the next run: {difference}")
             is_left = folder.outcome.status != 10 or folder.files() == [journal, pages]
             expect(is_left, f"{what}: a sample that is refused changes a file")
+            is_level = not is_follow(script) or folder.archive.entries == self.entries
+            expect(is_level, f"{what}: given the packets again, a follower has other entries than without a fault")
 
 
 def _filler(folder: Folder) -> Callable[[Folder], None]:
@@ -336,6 +351,24 @@ def long_kinds(folder: Folder) -> None:
     """The same with an entry behind it that is longer than what a pipe holds, and another."""
     kinds(folder)
     expect(not (difference := folder.difference(LONG_TEXT + b"delete 9 11\n")), f"an archive to begin with: {difference}")
+
+
+def steps(folder: Folder) -> None:
+    """A word in many documents, with a plan of many pages."""
+    many(folder)
+    expect(not (difference := folder.difference(STEPS_SCRIPT)), f"an archive to begin with: {difference}")
+
+
+def following(program: str, leader: Callable[[Folder], None], first: int = 1) -> bytes:
+    """The word of a follower, and the packets of an archive that is filled so."""
+    with Folder(program) as folder:
+        leader(folder)
+        return FOLLOW + packets(folder.archive.entries, first)
+
+
+def follows(program: str) -> list[tuple[Callable[[Folder], None], bytes]]:
+    """Archives to begin with, each with the packets of one that it follows: a new one, and one that has some of the entries."""
+    return [(nothing, following(program, kinds)), (some, following(program, steps, 5))]
 
 
 #: Archives to begin with, each with a script, that runs are cut short of.

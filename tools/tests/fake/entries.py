@@ -88,12 +88,17 @@ def records(journal: bytes) -> Iterator[tuple[int, bytes]]:
         if end >= len(journal):
             raise NotArchive(gate)
         body = journal[gate + 5 : end]
-        if not body or not ARRIVE <= body[0] <= MARK:
-            raise NotArchive(gate + 5)
-        if body[0] == MARK and body != THE_MARK:
-            raise NotArchive(gate + 6 if body[1:3] != THE_MARK[1:] else gate + 8)
+        test_tag(body, gate + 5)
         yield gate, body
         gate = end
+
+
+def test_tag(body: bytes, at: int) -> None:
+    """Tests that the body at a place has the tag of an entry, and where that is the mark's, spells it."""
+    if not body or not ARRIVE <= body[0] <= MARK:
+        raise NotArchive(at)
+    if body[0] == MARK and body != THE_MARK:
+        raise NotArchive(at + 1 if body[1:3] != THE_MARK[1:] else at + 3)
 
 
 def _four(number: int) -> bytes:

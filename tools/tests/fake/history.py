@@ -8,9 +8,10 @@ from bisect import bisect_right
 from collections import Counter
 from dataclasses import dataclass
 from pathlib import Path
+from struct import error
 
-from .entries import BATCH, CLOSED, HEADER, MARK, MOST_TEXT, NOW, OPEN, PLAN, THE_MARK, Act, NotArchive, acts_of, records, spelled_batch
-from .planning import GUARANTEE, Plan, Posting, Stored, Table, shared
+from .entries import BATCH, CLOSED, HEADER, MARK, MOST_TEXT, NOW, OPEN, PLAN, THE_MARK, Act, NotArchive, acts_of, records, spelled_batch, test_tag
+from .planning import GUARANTEE, SINCE, UNIFORM, Plan, Posting, Stored, Table, shared
 from .words import BadQuery, Query, any_of, one_term, parse, terms
 
 #: The texts of a batch have at most so many bytes together.
@@ -42,7 +43,8 @@ class History:
         self._path = folder / "archive.journal"
         self._versions: dict[int, list[Version]] = {}
         self._last: int | None = None
-        self._length = 0
+        #: The entries, in their order.
+        self.bodies: list[bytes] = []
         self._plans: dict[str, Stored] = {}
         self._lists: dict[str, list[Posting]] = {}
         self._gate = len(HEADER)
@@ -59,7 +61,7 @@ class History:
         self._test(act)
         self._append(act.spelled())
         self._take_in(act)
-        return [f"ok {self._length}"]
+        return [f"ok {len(self.bodies)}"]
 
     def batch(self, members: list[Act | None]) -> list[str]:
         """Carries out all acts of a batch or none; a member that is none is an item of another kind."""
@@ -69,14 +71,22 @@ class History:
             raise Refusal(f"16 BatchLine {members.index(None) + 1}")
         self._take_all_in(acts)
         self._append(spelled_batch(acts))
-        return [f"ok {self._length}"]
+        return [f"ok {len(self.bodies)}"]
 
     def mark(self) -> list[str]:
         if self._is_marked:
             raise Refusal("19 HasFormat")
         self._append(THE_MARK)
         self._is_marked = True
-        return [f"ok {self._length}"]
+        return [f"ok {len(self.bodies)}"]
+
+    def take(self, body: bytes) -> None:
+        """Takes the next entry of an archive that this one follows. A NotArchive tells that it can't be."""
+        test_tag(body, 0)
+        if body[0] == PLAN:
+            self._test_plan(body)
+        self._enter(0, body)
+        self._append(body)
 
     def show(self, doc: int, time: int) -> bytes | None:
         version = self._at(doc, time)
@@ -172,7 +182,7 @@ class History:
         self._append(Stored(key, kind, since, factor, plan).encode())
         self._plans[key] = Stored(key, kind, since, factor, plan)
         return [
-            f"plan {self._length} segments {len(plan.sizes)} space {plan.space} full {table.full} horizon {self._last}{cost}"
+            f"plan {len(self.bodies)} segments {len(plan.sizes)} space {plan.space} full {table.full} horizon {self._last}{cost}"
         ]
 
     def propose(self, word: str, factor: tuple[int, int]) -> list[str]:
@@ -213,6 +223,19 @@ class History:
             raise Refusal("18 OldFormat")
         if size > MOST_BATCH:
             raise Refusal(f"17 BatchTooLong {MOST_BATCH}")
+
+    def _test_plan(self, body: bytes) -> None:
+        """Tests that a plan is one that this program may have stored. Its sublists lie nowhere."""
+        try:
+            stored = Stored.decode(body)
+        except (ValueError, LookupError, error):
+            raise NotArchive(0) from None
+        live, (over, under), horizon = self._plans.get(stored.key), stored.factor, stored.plan.cuts[-1]
+        postings = _clipped(self._list(stored.key), 0, horizon)
+        may_be = stored.encode() == body and stored.kind in (GUARANTEE, UNIFORM, SINCE) and over >= under >= 1
+        is_late = horizon <= (self._last or 0) and not (live and horizon < live.plan.cuts[-1])
+        if not (may_be and is_late and postings and Table(postings, horizon).promises(stored)):
+            raise NotArchive(0)
 
     def _take_all_in(self, acts: list[Act]) -> None:
         """Each act behind those before it. Where one is refused, they are let go again."""
@@ -305,7 +328,7 @@ class History:
         self._pass(body)
 
     def _pass(self, body: bytes) -> None:
-        self._length += 1
+        self.bodies.append(body)
         self._gate += 5 + len(body)
 
     def _take_in(self, act: Act) -> None:
@@ -316,18 +339,22 @@ class History:
 
     def _load(self) -> None:
         for gate, body in records(self._path.read_bytes()):
-            if body[0] == PLAN:
-                stored = Stored.decode(body)
-                self._plans[stored.key] = stored
-            elif body[0] == MARK:
-                if self._is_marked:
-                    raise NotArchive(gate)
-                self._is_marked = True
-            else:
-                self._load_acts(gate, body)
+            self._enter(gate, body)
             self._pass(body)
 
-    def _load_acts(self, gate: int, body: bytes) -> None:
+    def _enter(self, gate: int, body: bytes) -> None:
+        """Carries out what an entry says."""
+        if body[0] == PLAN:
+            stored = Stored.decode(body)
+            self._plans[stored.key] = stored
+        elif body[0] == MARK:
+            if self._is_marked:
+                raise NotArchive(gate)
+            self._is_marked = True
+        else:
+            self._enter_acts(gate, body)
+
+    def _enter_acts(self, gate: int, body: bytes) -> None:
         acts = acts_of(body, gate + 5)
         try:
             if body[0] == BATCH:

@@ -100,15 +100,30 @@ class Table:
             cuts.append(back[cuts[-1]])
         return self.plan([times[cut] for cut in reversed(cuts)]), best
 
+    def promises(self, stored: Stored) -> bool:
+        """Whether a plan of this list is what its kind promises: with a guarantee a least one, and otherwise one in the space
+        that costs as much as the best."""
+        (over, under), plan = stored.factor, stored.plan
+        cuts, ends = list(plan.cuts), {plan.cuts[0], plan.cuts[-1]}
+        if cuts != sorted({*cuts}) or ends != {self.boundaries[0], self.boundaries[-1]} or plan != self.plan(cuts):
+            return False
+        if stored.kind == GUARANTEE:
+            return self._keeps(plan, over, under) and plan.space == self.least(over, under)[0].space
+        cost = sum(size * seconds(*span, stored.since) for *span, size in zip(plan.cuts, plan.cuts[1:], plan.sizes))
+        return plan.space <= over * self.full // under and cost == self.bounded(over, under, stored.since)[1]
+
+    def _keeps(self, plan: Plan, over: int, under: int) -> bool:
+        """Whether each segment keeps to a factor, and begins at a boundary."""
+        alive = {left: self.size(left, right) for left, right in zip(self.boundaries, self.boundaries[1:])}
+        least = [min((alive[time] for time in alive if left <= time < right), default=0) for left, right in zip(plan.cuts, plan.cuts[1:])]
+        return {*plan.cuts} <= {*self.boundaries} and all(size * under <= over * some for size, some in zip(plan.sizes, least))
+
     def bounded(self, over: int, under: int, since: int) -> tuple[Plan, int]:
         """A plan of least expected cost in bounded space, and that cost."""
-
-        def seconds(left: int, right: int) -> int:
-            return max(0, right - max(left, since))
-
         times = self.boundaries
-        whole = self.full * seconds(times[0], times[-1])
-        cost, cuts = min([(whole, [times[0], times[-1]]), *self.front(over, under, seconds).values()])
+        whole = self.full * seconds(times[0], times[-1], since)
+        weighed = self.front(over, under, lambda left, right: seconds(left, right, since))
+        cost, cuts = min([(whole, [times[0], times[-1]]), *weighed.values()])
         return self.plan(cuts), cost
 
     def front(self, over: int, under: int, weigh: Callable[[int, int], int]) -> dict[int, tuple[int, list[int]]]:
@@ -139,6 +154,11 @@ class Table:
         own, _ = charges(16 * self.full)
         whole = -(-self.full // unit), self.full * count(self.boundaries[0], self.boundaries[-1])
         return [whole, *((-(-charge * own // unit), cost) for charge, (cost, _) in self.front(16, 1, count).items())]
+
+
+def seconds(left: int, right: int, since: int) -> int:
+    """How many seconds of a span don't come before a time."""
+    return max(0, right - max(left, since))
 
 
 def charges(cap: int) -> tuple[int, int]:

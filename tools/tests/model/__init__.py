@@ -12,11 +12,11 @@ has them, which may be of another version of Unicode than the program's.
 from .archive import STINT_PAGES, Archive, Choice, Outcome
 from .base import PAGE, Differs, NotArchive
 from .journal import HEADER, OPEN, read_journal, spell_journal
-from .options import words_of
+from .options import FOLLOW, input_of, words_of
 from .packets import packets
 from .script import items
 
 __all__ = [
-    *("HEADER", "OPEN", "PAGE", "STINT_PAGES", "Archive", "Choice", "Differs", "NotArchive", "Outcome"),
-    *("items", "packets", "read_journal", "spell_journal", "words_of"),
+    *("FOLLOW", "HEADER", "OPEN", "PAGE", "STINT_PAGES", "Archive", "Choice", "Differs", "NotArchive", "Outcome"),
+    *("input_of", "items", "packets", "read_journal", "spell_journal", "words_of"),
 ]

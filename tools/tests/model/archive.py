@@ -13,8 +13,8 @@ from .base import MOST_WORDS, PAGE
 from .base import Broken, Differs, NoCommand, NotArchive, Refused
 from .firsts import Sheet, test_opened
 from .journal import BLOCKS, Batch, Change, Mark, Place, Plan, blocks_of, clipped, read_entry, read_journal, spell_journal, sublist
-from .options import words_of
-from .packets import packets
+from .options import input_of, words_of
+from .packets import first_difference, packet_at, packets
 from .plans import GUARANTEE, SINCE, UNIFORM, Line, Posting, near_postings, stretches, test_segments, test_width, told
 from .samples import PLANNED, sample_script
 from .shares import MOST_ASKED, test_shares
@@ -82,17 +82,11 @@ class Archive:
         for gate, entry in read_journal(journal):
             read = read_entry(entry, gate + 5)
             try:
-                if isinstance(read, Mark):
-                    archive._test_mark()
-                elif isinstance(read, Plan):
-                    archive._test_plan(read)
-                    gates[read.key] = gate
-                elif isinstance(read, Batch):
-                    archive._test_batch(read)
-                else:
-                    archive._test_change(read)
+                archive._test(read)
             except Refused:
                 raise NotArchive(gate) from None
+            if isinstance(read, Plan):
+                gates[read.key] = gate
             archive._enter(entry)
         taken: set[int] = set()
         for key, gate in sorted(gates.items(), key=lambda it: it[1]):
@@ -101,6 +95,17 @@ class Archive:
                     raise NotArchive(gate)
                 taken.update(place.pages())
         return archive
+
+    def _test(self, read: Change | Plan | Batch | Mark) -> None:
+        """What a load tests of an entry behind those before it."""
+        if isinstance(read, Mark):
+            self._test_mark()
+        elif isinstance(read, Plan):
+            self._test_plan(read)
+        elif isinstance(read, Batch):
+            self._test_batch(read)
+        else:
+            self._test_change(read)
 
     def _test_plan(self, plan: Plan) -> None:
         """What a load tests of a plan beyond its fields."""
@@ -138,12 +143,15 @@ class Archive:
 
     def run(self, script: bytes, choice: Choice) -> Outcome:
         """Carries out a script, up to a reply that the program didn't show, and tells what it is to show. A script that isn't broken
-        brings a plan that was begun to its end. (Or a sample, which shows nothing of its replies, or an export.)"""
+        brings a plan that was begun to its end. (Or a sample, which shows nothing of its replies, or an export; or takes packets, where
+        the program has no choice.)"""
         match words_of(script):
             case ["--generate", seed, "--count", count]:
                 return self._generate(int(seed), int(count), choice)
             case ["--export", first]:
                 return Outcome(packets(self.entries, int(first)), "", 0)
+            case ["--follow"]:
+                return self._follow(input_of(script))
         shown, self.asked, self.job = b"", [], None
         try:
             for item in items(script):
@@ -169,6 +177,50 @@ class Archive:
         hits, read = (sum(int(it.split()[at]) for it in questions) for at in (-3, -1))
         counts = b"generated %d accepted %d refused %d hits %d read %d\n" % (count, len(changes) - refused, refused, hits, read)
         return Outcome(counts + replies[-1], "", 0)
+
+    def _follow(self, stream: bytes) -> Outcome:
+        """Takes the packets of a stream, up to the first that can't be taken."""
+        shown, at = b"", 0
+        while at < len(stream):
+            bad, have = Outcome(shown, f"tt_archive: bad packet at byte {at}\n", 15), len(self.entries)
+            if (packet := packet_at(stream, at)) is None:
+                return bad
+            number, body = packet
+            if number > have + 1:
+                return Outcome(shown, f"tt_archive: have {have} entries, got number {number}\n", 13)
+            if number <= have and body != self.entries[number - 1]:
+                place = first_difference(body, self.entries[number - 1])
+                return Outcome(shown, f"tt_archive: entry {number} differs at byte {place}\n", 14)
+            if number > have:
+                try:
+                    self.take(body)
+                except (Refused, NotArchive, Differs):
+                    return bad
+            shown += b"%b %d\n" % (b"took" if number > have else b"had", number)
+            at += 12 + len(body)
+        return Outcome(shown + b"end %d\n" % len(self.entries), "", 0)
+
+    def take(self, entry: bytes) -> None:
+        """Appends an entry of another archive; an error tells that it may not come next."""
+        read = read_entry(entry)
+        self._test(read)
+        if isinstance(read, Plan):
+            self._test_taken(read)
+        self._append(entry)
+
+    def _test_taken(self, plan: Plan) -> None:
+        """What is tested of another archive's plan beside what a load tests."""
+        postings = self.postings(plan.key, 0, plan.horizon)
+        test_segments(Line(postings, plan.horizon), plan.kind, plan.factor, plan.since, plan.segments())
+        if plan.key in self.plans and plan.horizon < self.plans[plan.key].horizon:
+            raise Refused("a plan up to an earlier time than the live one")
+        taken = {page for it in self.plans.values() for place in it.places for page in place.pages()}
+        for segment, place in zip(plan.segments(), plan.places):
+            content = sublist(postings, *segment, plan.layout)
+            is_for = (place.size, place.digest) == (len(content), sha256(content).digest()) and (content or place.page == 0)
+            if not is_for or not taken.isdisjoint(place.pages()):
+                raise Refused("a place that can't be taken")
+            taken.update(place.pages())
 
     def shown_of(self, item: Item, choice: Choice) -> bytes:
         """Carries out an item, and tells what the program is to show of it."""

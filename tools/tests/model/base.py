@@ -9,6 +9,8 @@ MOST_DOCUMENTS, MOST_VERSIONS, MOST_WORDS, MOST_BYTES = 1 << 20, 1 << 22, 1 << 2
 MOST_BOUNDARIES, PAGE = 1 << 20, 4_096
 #: Of the changes of a batch, and of the bytes of their texts together.
 MOST_ACTS, MOST_BATCH = 1_000, 1 << 24
+#: Of the bytes of an entry in a packet.
+MOST_BODY = 1 << 26
 #: Of the rows that may be asked for.
 MOST_TOP_ROWS, MOST_BEST_ROWS = 1_000_000, 1_000
 
