@@ -325,6 +325,18 @@ def _in_order(time: bytes) -> int:
     return int(time) if time.isdigit() else 0
 
 
+class Pages:
+    """The bytes of Pages, each read when it is looked at: a follower may be given places that lie far behind all others."""
+
+    def __init__(self, path: Path) -> None:
+        self.path = path
+
+    def __getitem__(self, span: slice) -> bytes:
+        with self.path.open("rb") as file:
+            file.seek(span.start)
+            return file.read(span.stop - span.start)
+
+
 class Folder:
     """A folder of an archive of its own, and the archive that the model has of it."""
 
@@ -366,9 +378,9 @@ class Folder:
     def difference(self, script: bytes) -> str:
         """Runs a script; where the program differs from the model, how it does."""
         self.outcome = self.run(script)
-        return self.difference_of(script, self.outcome, self.journal.read_bytes(), self.pages.read_bytes())
+        return self.difference_of(script, self.outcome, self.journal.read_bytes(), Pages(self.pages))
 
-    def difference_of(self, script: bytes, outcome: Outcome, journal: bytes, pages: bytes) -> str:
+    def difference_of(self, script: bytes, outcome: Outcome, journal: bytes, pages: bytes | Pages) -> str:
         """How a run of the script that came to this, and left these files, differs from the model's."""
         try:
             entries = [entry for _, entry in read_journal(journal)]
@@ -381,7 +393,7 @@ class Folder:
             return f"the program ends with {outcome.status} {outcome.line!r}, and the model with {wanted.status} {wanted.line!r}"
         return self.file_difference(journal, pages)
 
-    def file_difference(self, journal: bytes, pages: bytes) -> str:
+    def file_difference(self, journal: bytes, pages: bytes | Pages) -> str:
         """How the files differ from what the model has."""
         wanted = spell_journal(self.archive.entries)
         if self.was_cut and journal[len(wanted) - 1 : len(wanted)] != bytes([OPEN]):
@@ -390,8 +402,8 @@ class Folder:
             place = next((at for at, (one, other) in enumerate(zip(journal, wanted)) if one != other), min(len(journal), len(wanted)))
             return f"the journal differs at byte {place}: {journal[place:][:32].hex()}, and not {wanted[place:][:32].hex()}"
         for place, content in self.archive.live_sublists():
-            if pages[place : place + len(content)] != content:
-                return f"the sublist in page {place // PAGE} is {pages[place:][:len(content)].hex()}, and not {content.hex()}"
+            if (held := pages[place : place + len(content)]) != content:
+                return f"the sublist in page {place // PAGE} is {held.hex()}, and not {content.hex()}"
         return ""
 
 

@@ -207,8 +207,8 @@ class Pictures(ArchiveCase):
         self.tt("plan", "w3", "guarantee", "2")
         told = self.tt("status").stdout.splitlines()
         self.assertRegex(told[1], r"^entries    \d+ versions, \d+ deletions, 3 plans$")
-        self.assertRegex(told[4], r"^plan       w2 guarantee 3/2: \d+ segments, until 1972-11-25T12:00:00Z$")
-        self.assertRegex(told[5], r"^plan       w3 guarantee 2/1: ")
+        self.assertRegex(told[5], r"^plan       w2 guarantee 3/2: \d+ segments, until 1972-11-25T12:00:00Z$")
+        self.assertRegex(told[6], r"^plan       w3 guarantee 2/1: ")
 
     def test_what_is_stored_is_checked(self) -> None:
         self.assertEqual(self.tt("verify").stdout, "sound: 0 words with a plan, 0 segments\n")

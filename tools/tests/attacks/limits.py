@@ -5,7 +5,7 @@ from __future__ import annotations
 from struct import pack
 from typing import Iterable
 
-from model import Outcome, packets, read_journal, spell_journal
+from model import FOLLOW, Outcome, packets, read_journal, spell_journal
 from scripts import Folder
 
 from attacks.rig import expect
@@ -15,6 +15,10 @@ DOCUMENTS, VERSIONS, WORDS, BOUNDARIES, TEXT = 1 << 20, 1 << 22, 1 << 20, 1 << 2
 
 def _arrival(document: int, time: int, text: bytes) -> bytes:
     return pack(">BIQ", 1, document, time) + text
+
+
+def _batch(*acts: bytes) -> bytes:
+    return pack(">BI", 4, len(acts)) + b"".join(pack(">I", len(it)) + it for it in acts)
 
 
 def _arrive(document: int, time: int, text: bytes) -> bytes:
@@ -32,6 +36,26 @@ def _expect(program: str, what: str, entries: Iterable[bytes], script: bytes, sh
             wanted = packets((entry for _, entry in read_journal(folder.journal.read_bytes())), first)
             outcome = folder.run(b"--export %d\n" % first)
             expect(outcome == Outcome(wanted, "", 0), f"{what}: an export from {first} ends with {outcome.status} {outcome.line!r}")
+            if first == 1:
+                _follow(program, what, wanted, folder.files())
+
+
+def _follow(program: str, what: str, stream: bytes, files: list[bytes]) -> None:
+    """By these packets a new archive comes to have these files."""
+    with Folder(program) as folder:
+        outcome = folder.run(FOLLOW + stream)
+        is_level = (outcome.status, outcome.line) == (0, "") and folder.files() == files
+        expect(is_level, f"{what}: a follower ends with {outcome.status} {outcome.line!r}, having shown {outcome.shown[-99:]!r}")
+
+
+def _expect_end(program: str, what: str, entries: Iterable[bytes], count: int, nexts: list[bytes]) -> None:
+    """Behind so many entries the last of these, each the next one, can't be taken, and those before it are."""
+    with Folder(program) as folder:
+        folder.journal.write_bytes(spell_journal(entries))
+        parts = [pack(">QI", number, len(entry)) + entry for number, entry in enumerate(nexts, count + 1)]
+        outcome = folder.run(FOLLOW + b"".join(parts))
+        took, at = b"".join(b"took %d\n" % number for number in range(count + 1, count + len(nexts))), sum(map(len, parts[:-1]))
+        expect(outcome == Outcome(took, f"tt_archive: bad packet at byte {at}\n", 15), f"a follower of {what}: {outcome}")
 
 
 def reach_limits(program: str, audit: str) -> str:
@@ -75,6 +99,16 @@ def reach_limits(program: str, audit: str) -> str:
         b"format 2\nbatch 2\narrive 0 4194303 0\n\narrive 1 4194303 0\n\nbatch 1\narrive 0 4194303 0\n\narrive 0 4194304 1\nv\ndelete 0 4194304\narrive 10 4194304 1\nv\nfind 4194304 v\nverify\n",
         b"ok 4194304\nno 10 Full versions 4194304 in 2\nok 4194305\n" + 3 * b"no 10 Full versions 4194304\n" + b"end 0 read 0\nsound 0 0\n",
     )
+    _expect_end(
+        program,
+        "an archive with all documents",
+        (_arrival(document, 1, b"") for document in range(DOCUMENTS)),
+        DOCUMENTS,
+        [_arrival(DOCUMENTS - 1, 2, b"v"), _arrival(DOCUMENTS, 2, b"v")],
+    )
+    texts = [_arrival(document, 2, bytes(TEXT)) for document in range(4)]
+    _expect_end(program, "a text that is too long", [], 0, [_arrival(1, 1, bytes(TEXT)), _arrival(2, 1, bytes(TEXT + 1))])
+    _expect_end(program, "a batch that is too long", [bytes([5, 0, 2])], 1, [_batch(*texts), _batch(*(_arrival(it, 3, bytes(TEXT)) for it in range(4)), _arrival(4, 3, b"v"))])
     half = WORDS // 2
     texts = [b" ".join(b"%07x" % number for number in range(at, at + half)) for at in (0, half)]
     _expect(

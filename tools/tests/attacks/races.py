@@ -11,15 +11,17 @@ import signal
 import subprocess
 import time
 from contextlib import contextmanager
+from itertools import product
+from struct import pack
 from typing import Callable, Iterator
 
-from model import Choice, Outcome, packets, words_of
+from model import FOLLOW, Choice, Outcome, input_of, packets, words_of
 from scripts import MOST_SECONDS, Folder
 
 from attacks.faults import CALL, FILES, Tracer
-from attacks.rig import EXPORT, SAMPLE, STREAMS, expect, long_kinds, nothing
+from attacks.rig import EXPORT, SAMPLE, STREAMS, expect, following, kinds, long_kinds, nothing
 
-ROUNDS, ROUNDS_OF_SAMPLES, ROUNDS_OF_EXPORTS, STARTED = 40, 10, 10, 6
+ROUNDS, ROUNDS_OF_SAMPLES, ROUNDS_OF_EXPORTS, ROUNDS_OF_FOLLOWERS, STARTED = 40, 10, 10, 10, 6
 #: What is shown of the longest sample. (The model takes minutes for it, and told the same once.)
 LONGEST = b"--generate 9999999999999999999 --count 100000\n"
 LONGEST_SHOWN = b"generated 100000 accepted 90008 refused 10000 hits 17 read 3517\nsound 8 13006\n"
@@ -51,8 +53,8 @@ def race(program: str, audit: str) -> str:
     for _ in range(ROUNDS_OF_SAMPLES):
         _race_samples(program)
     told = f"{ROUNDS} rounds of {STARTED} programs and 2 audits at one time: {worked} programs and {audited} audits worked"
-    exports = _race_exports(program)
-    return f"{told}; {ROUNDS_OF_SAMPLES} of {STARTED} samples; and {ROUNDS_OF_EXPORTS} with {STARTED} exports, {exports} of which worked"
+    told += f"; {ROUNDS_OF_SAMPLES} of {STARTED} samples; {ROUNDS_OF_EXPORTS} with {STARTED} exports, {_race_exports(program)} of which worked"
+    return f"{told}; and {ROUNDS_OF_FOLLOWERS} of {STARTED} followers, {_race_followers(program)} of which worked"
 
 
 def _race_samples(program: str) -> None:
@@ -93,6 +95,28 @@ def _race_exports(program: str) -> int:
     return worked
 
 
+def _race_followers(program: str) -> int:
+    """Starts followers of one leader together, each with the packets from one that the archive may have on: one takes what there is more,
+    and the others have it, or are told that another is at work. Tells how many worked."""
+    chance, worked = random.Random(7), 0
+    with Folder(program) as leader, Folder(program) as folder:
+        for number in range(1, ROUNDS_OF_FOLLOWERS + 1):
+            expect(not (difference := leader.difference(_script(number, 0) + b"plan red guarantee 3/2\n")), f"a leader: {difference}")
+            scripts = [FOLLOW + packets(leader.archive.entries, chance.randint(1, len(folder.archive.entries) + 1)) for _ in range(STARTED)]
+            started = [(it, subprocess.Popen([program, *words_of(it)], cwd=folder.path, **STREAMS)) for it in scripts]
+            shown = [(it, *process.communicate(input_of(it), timeout=MOST_SECONDS), process.returncode) for it, process in started]
+            ended = [(it, Outcome(shown, line.decode(), status)) for it, shown, line, status in shown]
+            first = [it for it in ended if b"took " in it[1].shown]
+            expect(len(first) == 1, f"followers that are started together end so: {[it[1] for it in ended]}")
+            for script, outcome in [*first, *(it for it in ended if it not in first)]:
+                wanted = [folder.archive.run(script, Choice([], b"")), Outcome(b"", f"tt_archive: {HELD}", 11)]
+                expect(outcome in wanted, f"a follower in round {number}: {outcome}, and not {wanted[0]}")
+                worked += outcome.status == 0
+            difference = folder.file_difference(*folder.files()) or leader.file_difference(*folder.files())
+            expect(not difference, f"followers in round {number}: {difference}")
+    return worked
+
+
 def _script(number: int, at: int) -> bytes:
     """Changes of a document of its own, all at the time of the round, so that they may come in any order."""
     arrivals = b"".join(b"arrive %d %d 3\nred\n" % (100 * at + document, number) for document in range(20))
@@ -115,9 +139,12 @@ def _check(folder: Folder, ended: list[tuple[bytes, Outcome]], number: int) -> i
     return len(worked)
 
 
-#: A batch of which a command is still to come, and a plan of which most pages are; each with what comes behind.
-BATCH_TO_COME = b"format 2\nbatch 2\narrive 8 50 3\nred\n", b"delete 8 51\nfind 50 red\n"
-PAGES_TO_COME = b"begin red guarantee 1/1\nshow 1 1\n", b"find 11 red\nverify\n"
+#: A batch of which a command is still to come, and a plan of which most pages are; each with how many lines are shown before, and
+#: with what comes behind.
+BATCH_TO_COME = b"format 2\nbatch 2\narrive 8 50 3\nred\n", 1, b"delete 8 51\nfind 50 red\n"
+PAGES_TO_COME = b"begin red guarantee 1/1\nshow 1 1\n", 2, b"find 11 red\nverify\n"
+#: A follower, and the packet of an arrival.
+ONE_PACKET = FOLLOW + packets([pack(">BIQ", 1, 8, 50) + b"red"], 1)
 ARRIVALS = b"".join(b"arrive %d %d 3\nred\n" % (at, at) for at in range(1, 41))
 
 
@@ -125,7 +152,9 @@ def refuse_beside(program: str, audit: str) -> str:
     """Stops programs amid their work. Who comes then is refused."""
     held = [_refuse_beside_sample(program, audit), _refuse_beside_export(program, audit), _refuse_beside_locks(program)]
     held += [_refuse_beside_script(program, audit, nothing, *BATCH_TO_COME), _refuse_beside_script(program, audit, _many, *PAGES_TO_COME)]
-    return f"{sum(held)} programs beside the longest sample, an export, locks, a batch and a plan's pages to come, each stopped amid its work"
+    followed = following(program, kinds)
+    held += [_refuse_beside_script(program, audit, nothing, followed[:-9], 12, followed[-9:])]  # a follower, amid the last of 13 packets
+    return f"{sum(held)} programs beside the longest sample, an export, locks, a follower, a batch and a plan's pages to come, each stopped amid its work"
 
 
 def _many(folder: Folder) -> None:
@@ -135,7 +164,7 @@ def _many(folder: Folder) -> None:
 
 def _refuse_others(folder: Folder, program: str, audit: str, what: str) -> int:
     """Who comes beside a program that is stopped opens the journal alone, and reads, writes, pulls and shows nothing."""
-    others = [(program, b"arrive 1 10 3\nred\n"), (program, SAMPLE), (program, EXPORT), (audit, b"verify\n")]
+    others = [(program, b"arrive 1 10 3\nred\n"), (program, SAMPLE), (program, EXPORT), (program, ONE_PACKET), (audit, b"verify\n")]
     left, names = folder.files(), {*os.listdir(folder.path), "calls", "script", "shown"}
     for command, script in others:
         outcome = Tracer(command, FILES).run(folder, script=script)
@@ -185,27 +214,30 @@ def _refuse_beside_export(program: str, audit: str) -> int:
 
 
 def _refuse_beside_locks(program: str) -> int:
-    """An export beside a lock of either kind, in a folder without Pages."""
+    """An export and a follower beside a lock of either kind, in a folder without Pages."""
     with Folder(program) as folder:
         folder.journal.touch()
         with folder.journal.open("rb") as journal:
-            for kind in (fcntl.LOCK_EX, fcntl.LOCK_SH):
+            for kind, script in product((fcntl.LOCK_EX, fcntl.LOCK_SH), (EXPORT, ONE_PACKET)):
                 fcntl.flock(journal, kind)
-                outcome = folder.run(EXPORT)
-                expect(outcome == Outcome(b"", f"tt_archive: {HELD}", 11), f"an export beside a lock: {outcome}")
-                expect(folder.files() == [b"", b""] and not folder.pages.exists(), "an export beside a lock makes or changes a file")
-        expect(not (difference := folder.difference(EXPORT)), f"an export behind locks: {difference}")
-    return 2
+                outcome = folder.run(script)
+                expect(outcome == Outcome(b"", f"tt_archive: {HELD}", 11), f"an export, or a follower, beside a lock: {outcome}")
+                is_left = folder.files() == [b"", b""] and not folder.pages.exists() and folder.pulled == 0
+                expect(is_left, "an export, or a follower, beside a lock makes or changes a file, or pulls")
+        for script in (EXPORT, ONE_PACKET):
+            expect(not (difference := folder.difference(script)), f"an export, or a follower, behind locks: {difference}")
+    return 4
 
 
-def _refuse_beside_script(program: str, audit: str, fill: Callable[[Folder], None], begun: bytes, rest: bytes) -> int:
-    """Beside a program that waits for the rest of its script."""
+def _refuse_beside_script(program: str, audit: str, fill: Callable[[Folder], None], begun: bytes, lines: int, rest: bytes) -> int:
+    """Beside a program that waits for the rest of its script, or a follower that does for the rest of a packet, and has shown so many
+    lines."""
     with Folder(program) as folder:
         fill(folder)
-        with _started([program], folder) as process:
-            process.stdin.write(begun)
-            shown = os.read(process.stdout.fileno(), 1 << 16)
-            while shown.count(b"\n") < begun.count(b"\nshow ") + 1:
+        with _started([program, *words_of(begun)], folder) as process:
+            process.stdin.write(input_of(begun))
+            shown = b""
+            while shown.count(b"\n") < lines:
                 shown += os.read(process.stdout.fileno(), 1 << 16)
             _stop(process)
             refused = _refuse_others(folder, program, audit, f"a program that was given {begun!r}")
