@@ -14,7 +14,7 @@ fn each_status_has_its_code_and_its_line(rt: HostRuntime) -> Result<(), RowError
         (
             Status::Usage,
             2,
-            "tt_archive: usage: tt_archive [--generate SEED --count COUNT | --export FROM]",
+            "tt_archive: usage: tt_archive [--generate SEED --count COUNT | --export FROM | --follow]",
         ),
         (
             Status::NotArchive { at: 16 },
@@ -45,6 +45,26 @@ fn each_status_has_its_code_and_its_line(rt: HostRuntime) -> Result<(), RowError
             "tt_archive: the archive has 7 entries",
         ),
         (Status::Memory, 12, "tt_archive: no memory"),
+        (
+            Status::Gap { have: 2, got: 5 },
+            13,
+            "tt_archive: have 2 entries, got number 5",
+        ),
+        (
+            Status::Conflict {
+                number: 1,
+                place: 4,
+                kept: Some(7),
+                got: None,
+            },
+            14,
+            "tt_archive: entry 1 differs at byte 4",
+        ),
+        (
+            Status::Packet { at: 102 },
+            15,
+            "tt_archive: bad packet at byte 102",
+        ),
     ];
     for (row, (status, code, line)) in rows.iter().enumerate() {
         expect_line(rt.alloc(), row, *status, *code, line)?;

@@ -15,6 +15,7 @@ pub(super) const ALL_TAKEN: &[u8] = b"took 1\ntook 2\ntook 3\ntook 4\ntook 5\nen
 const ALL_HAD: &[u8] = b"had 1\nhad 2\nhad 3\nhad 4\nhad 5\nend 5\n";
 
 /// A run that takes packets, and how it is to end.
+#[derive(Clone, Copy, Debug)]
 struct Taking<'a> {
     packets: &'a [u8],
     status: Status,
@@ -195,28 +196,35 @@ fn packets_in_pieces_are_taken_alike(rt: HostRuntime) -> Result<(), RowError> {
     Ok(())
 }
 
-// A packet begins with its number in 8 bytes and its length in 4. Where one can't be, its place is told, with all in front of it taken.
+/// Behind packets of the first two entries, bytes that are no packet are told with their place.
+fn expect_told(alloc: Global, row: usize, front: &[u8], bad: &[u8]) -> Result<(), RowError> {
+    let packets = join(alloc, &[front, bad])?;
+    let taking = Taking {
+        packets: &packets,
+        status: Status::Packet { at: 52 },
+        lines: b"took 1\ntook 2\n",
+    };
+    take_on(alloc, row, &new_disk(alloc), &taking)?;
+    Ok(())
+}
+
+/// Bytes that are no packet: a number 0, a length of 67,108,865 bytes, no length, an entry of no byte, and one of an unknown kind. A
+/// packet begins with its number in 8 bytes and its length in 4.
+const NO_PACKETS: [&[u8]; 5] = [
+    b"\0\0\0\0\0\0\0\0\0\0\0\x01\x01",
+    b"\0\0\0\0\0\0\0\x03\x04\0\0\x01",
+    b"\0\0\0\0\0\0\0\x03\0",
+    b"\0\0\0\0\0\0\0\x03\0\0\0\0",
+    b"\0\0\0\0\0\0\0\x03\0\0\0\x01\xff",
+];
+
 #[test]
 fn packets_that_cannot_be_are_told(rt: HostRuntime) -> Result<(), RowError> {
     let alloc = rt.alloc();
     let leader = first_disk(alloc)?;
     let front = stream_of(alloc, &leader.journal, &[1, 2])?;
-    let rows: [&[u8]; 5] = [
-        // a number 0, a length of 67,108,865 bytes, no length, an entry of no byte, and one of an unknown kind
-        b"\0\0\0\0\0\0\0\0\0\0\0\x01\x01",
-        b"\0\0\0\0\0\0\0\x03\x04\0\0\x01",
-        b"\0\0\0\0\0\0\0\x03\0",
-        b"\0\0\0\0\0\0\0\x03\0\0\0\0",
-        b"\0\0\0\0\0\0\0\x03\0\0\0\x01\xff",
-    ];
-    for (row, bad) in rows.iter().enumerate() {
-        let packets = join(alloc, &[&front, bad])?;
-        let taking = Taking {
-            packets: &packets,
-            status: Status::Packet { at: 52 },
-            lines: b"took 1\ntook 2\n",
-        };
-        take_on(alloc, row, &new_disk(alloc), &taking)?;
+    for (row, bad) in NO_PACKETS.iter().enumerate() {
+        expect_told(alloc, row, &front, bad)?;
     }
     Ok(())
 }
