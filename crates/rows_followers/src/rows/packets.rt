@@ -1,5 +1,6 @@
 //! The packets of a disk's journal.
-use rows_rig::RowError;
+use machine_model::Image;
+use rows_rig::{RowError, expect_check};
 use std::alloc::Global;
 
 /// The numbers of the five records of the disk's journal, and where they lie in it, from behind their gate to the next
@@ -35,4 +36,18 @@ pub(super) fn packets_of(alloc: Global, journal: &[u8], from: u64) -> Result<Vec
         }
     }
     Ok(packets)
+}
+
+/// A follower's disk has the leader's journal, and the sublists of the plan in it. (Between the places of a plan, a stop may
+/// leave any bytes in Pages.)
+pub(super) fn expect_copied(
+    alloc: Global,
+    row: usize,
+    copy: Image,
+    leader: &Image,
+) -> Result<(), RowError> {
+    if copy.journal.as_slice() != leader.journal.as_slice() {
+        return Err(RowError::Changed { row });
+    }
+    expect_check(alloc, copy, row, b"sound 1 3\n")
 }

@@ -1,11 +1,11 @@
 //! What a stop or a fault leaves of an archive that follows another one.
 use super::follows::ALL_TAKEN;
-use super::packets::packets_of;
+use super::packets::{expect_copied, packets_of};
 use machine_mem::{CallKind, Fault, MemMachine};
 use machine_model::Image;
 use rows_rig::{
-    RowError, TAILS, expect_entries, expect_replies, expect_same, expect_shown, first_disk,
-    machine_on, new_disk, pick_image, read_image, run_with,
+    RowError, TAILS, expect_entries, expect_replies, expect_shown, first_disk, machine_on,
+    new_disk, pick_image, read_image, run_with,
 };
 use run_script::Status;
 use std::alloc::Global;
@@ -22,7 +22,7 @@ fn followed(
     Ok((status, machine))
 }
 
-/// On an image that a stop left, the same packets lead to the leader's archive.
+/// On an image that a stop left, the same packets lead to the leader's history and its plan.
 fn expect_caught_up(
     alloc: Global,
     moment: usize,
@@ -37,7 +37,8 @@ fn expect_caught_up(
             status,
         });
     }
-    expect_same(moment, &read_image(alloc, &mut machine)?, leader)
+    let copy = read_image(alloc, &mut machine)?;
+    expect_copied(alloc, moment, copy, leader)
 }
 
 /// The same of each image that a stop may leave at a moment.
