@@ -13,7 +13,7 @@ use model_archive::Refusal;
 use std::alloc::Global;
 
 /// A change, and what it answers: an arrival with this text, or without one a deletion.
-#[derive(Clone, Copy, Debug)]
+#[derive(Clone, Copy)]
 pub struct Change<'a> {
     doc: u32,
     at: u64,

@@ -1,10 +1,10 @@
 //! What a check tells of a disk with other bytes in its Pages, and what is answered on a disk with a plan that
 //! is spelled here.
-use crate::disks::{disk_with, disk_with_bytes, expect_on};
+use crate::disks::{disk_with, disk_with_bytes, expect_row_on};
 use crate::error::RowError;
 use crate::journals::Plan;
 use crate::machines::machine_on;
-use crate::rows::{Row, expect_end};
+use crate::rows::{Row, expect_last};
 use machine_model::Image;
 use run_script::Status;
 use std::alloc::Global;
@@ -19,8 +19,8 @@ pub fn verify(told: &[u8]) -> Row<'_> {
 
 /// A check of a disk tells this. In its table the disk is this row, counted from 0.
 pub fn expect_check(alloc: Global, disk: Image, row: usize, told: &[u8]) -> Result<(), RowError> {
-    let mut machine = machine_on(alloc, b"verify\n", disk, &[])?;
-    expect_end(alloc, &mut machine, row, Status::Done, told)
+    let machine = machine_on(alloc, b"verify\n", disk, &[])?;
+    expect_last(alloc, machine, row, Status::Done, told)
 }
 
 /// With these bytes in its Pages, each with its place, a check of the disk tells this; the disk is the same for
@@ -41,7 +41,7 @@ pub fn expect_told(
 pub fn expect_planned(alloc: Global, rows: &[(Plan<'_>, Row<'_>)]) -> Result<(), RowError> {
     for (plan, row) in rows {
         let disk = disk_with(alloc, plan)?;
-        expect_on(alloc, &disk, &[*row])?;
+        expect_row_on(alloc, disk, 0, row)?;
     }
     Ok(())
 }

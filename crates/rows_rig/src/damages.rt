@@ -21,7 +21,7 @@ pub fn expect_line(
 }
 
 /// A script whose run ends at a damaged sublist.
-#[derive(Clone, Copy, Debug)]
+#[derive(Clone, Copy)]
 pub struct Damaged<'a> {
     /// The whole input.
     pub script: &'a [u8],

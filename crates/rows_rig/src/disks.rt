@@ -3,7 +3,7 @@ use crate::journals::{
     FLAT, FOUR_RECORDS, Plan, Segment, flat_segments, journal_of, pages_of, plan_of_v, plan_record,
 };
 use crate::rows::expect_row;
-use crate::{Row, RowError, copy_image, expect_end, machine_on, read_image};
+use crate::{Row, RowError, copy_image, expect_last, machine_on, read_image};
 use machine_mem::MemMachine;
 use machine_model::Image;
 use run_script::Status;
@@ -47,36 +47,64 @@ pub fn machine_after(alloc: Global, disk: Image, row: &Row<'_>) -> Result<MemMac
     Ok(machine)
 }
 
-/// The disk that a script leaves on a copy of this one, which comes to its end with its replies.
-pub fn disk_after(alloc: Global, disk: &Image, row: &Row<'_>) -> Result<Image, RowError> {
-    disk_after_row(alloc, disk, 0, row)
-}
-
-/// The same of a row of a table, counted from 0.
-fn disk_after_row(
+/// What a machine's disk holds behind the script of a row, which comes to its end with its replies.
+fn run_row(
     alloc: Global,
-    disk: &Image,
+    machine: &mut MemMachine,
     row: usize,
     wanted: &Row<'_>,
 ) -> Result<Image, RowError> {
-    let mut machine = machine_on(alloc, wanted.script, copy_image(alloc, disk)?, &[])?;
-    expect_row(alloc, &mut machine, row, wanted)?;
-    read_image(alloc, &mut machine)
+    expect_row(alloc, machine, row, wanted)?;
+    read_image(alloc, machine)
+}
+
+/// The disk that the script of a row leaves on this one. In its table it is this row, counted from 0.
+fn disk_after_row(
+    alloc: Global,
+    disk: Image,
+    row: usize,
+    wanted: &Row<'_>,
+) -> Result<Image, RowError> {
+    let mut machine = machine_on(alloc, wanted.script, disk, &[])?;
+    run_row(alloc, &mut machine, row, wanted)
+}
+
+/// The disk that a script leaves on a copy of this one, which comes to its end with its replies.
+pub fn disk_after(alloc: Global, disk: &Image, row: &Row<'_>) -> Result<Image, RowError> {
+    let copy = copy_image(alloc, disk)?;
+    disk_after_row(alloc, copy, 0, row)
+}
+
+/// The disk that a script leaves on a new one, which comes to its end with its replies.
+pub fn disk_of(alloc: Global, row: &Row<'_>) -> Result<Image, RowError> {
+    disk_after_row(alloc, new_disk(alloc), 0, row)
 }
 
 /// The disk that scripts leave, one behind the other, each with its replies.
 pub fn disk_after_all(alloc: Global, disk: Image, rows: &[Row<'_>]) -> Result<Image, RowError> {
     let mut disk = disk;
     for (row, wanted) in rows.iter().enumerate() {
-        disk = disk_after_row(alloc, &disk, row, wanted)?;
+        disk = disk_after_row(alloc, disk, row, wanted)?;
     }
     Ok(disk)
+}
+
+/// A script has its replies on a disk of which nothing more is asked. In its table it is this row, counted from 0.
+pub(crate) fn expect_row_on(
+    alloc: Global,
+    disk: Image,
+    row: usize,
+    wanted: &Row<'_>,
+) -> Result<(), RowError> {
+    let machine = machine_on(alloc, wanted.script, disk, &[])?;
+    expect_last(alloc, machine, row, Status::Done, wanted.replies)
 }
 
 /// Each of these scripts has its replies on the disk, which is the same for each.
 pub fn expect_on(alloc: Global, disk: &Image, rows: &[Row<'_>]) -> Result<(), RowError> {
     for (row, wanted) in rows.iter().enumerate() {
-        disk_after_row(alloc, disk, row, wanted)?;
+        let copy = copy_image(alloc, disk)?;
+        expect_row_on(alloc, copy, row, wanted)?;
     }
     Ok(())
 }
@@ -132,8 +160,8 @@ pub fn expect_status(
     row: usize,
     wanted: Status,
 ) -> Result<(), RowError> {
-    let mut machine = machine_on(alloc, b"", disk, &[])?;
-    expect_end(alloc, &mut machine, row, wanted, b"")
+    let machine = machine_on(alloc, b"", disk, &[])?;
+    expect_last(alloc, machine, row, wanted, b"")
 }
 
 /// A disk holds what another one holds. In its table it is this row, counted from 0.

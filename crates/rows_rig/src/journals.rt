@@ -5,7 +5,7 @@ use crate::sublists::{
 use std::alloc::{AllocError, Global};
 
 /// A segment of a plan, with its sublist and where that lies.
-#[derive(Clone, Copy, Debug)]
+#[derive(Clone, Copy)]
 pub struct Segment<'a> {
     /// Where it begins, in seconds.
     pub cut: u64,
@@ -67,7 +67,7 @@ pub const UNIFORM: &[u8] = b"\x02";
 pub const SINCE_30: &[u8] = b"\x03\x00\x00\x00\x00\x00\x00\x00\x1e";
 
 /// A plan as an entry.
-#[derive(Clone, Copy, Debug)]
+#[derive(Clone, Copy)]
 pub struct Plan<'a> {
     /// The form of its sublists.
     pub form: u8,

@@ -156,12 +156,17 @@ pub fn load_entries(alloc: Global, image: Image) -> Result<(MemMachine, u64), Ro
     Ok((machine, archive.length()))
 }
 
+/// The number of entries of the archive of a disk with this image, which has to load.
+pub(crate) fn count_entries(alloc: Global, image: Image) -> Result<u64, RowError> {
+    let (_, entries) = load_entries(alloc, image)?;
+    Ok(entries)
+}
+
 /// The number of entries of the archive with this journal, which has to load.
 pub(crate) fn count_on(alloc: Global, journal: &[u8]) -> Result<u64, RowError> {
     let image = Image {
         journal: Vec::from_slice(alloc, journal)?,
         pages: Vec::new(alloc),
     };
-    let (_, entries) = load_entries(alloc, image)?;
-    Ok(entries)
+    count_entries(alloc, image)
 }

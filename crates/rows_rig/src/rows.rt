@@ -5,7 +5,7 @@ use run_script::Status;
 use std::alloc::Global;
 
 /// A script, and the replies to it.
-#[derive(Clone, Copy, Debug)]
+#[derive(Clone, Copy)]
 pub struct Row<'a> {
     /// The whole input.
     pub script: &'a [u8],
@@ -42,6 +42,18 @@ pub fn expect_end(
     expect_replies(alloc, machine, row, replies)
 }
 
+/// The same of a machine of which nothing more is asked.
+pub fn expect_last(
+    alloc: Global,
+    machine: MemMachine,
+    row: usize,
+    wanted: Status,
+    replies: &[u8],
+) -> Result<(), RowError> {
+    let mut machine = machine;
+    expect_end(alloc, &mut machine, row, wanted, replies)
+}
+
 /// Runs a machine whose input is the script of a row, to its end and with the replies of the row.
 pub(crate) fn expect_row(
     alloc: Global,
@@ -59,8 +71,8 @@ fn expect_alone(
     row: usize,
     wanted: &Row<'_>,
 ) -> Result<(), RowError> {
-    let mut machine = make_machine(alloc, wanted.script, journal, &[])?;
-    expect_row(alloc, &mut machine, row, wanted)
+    let machine = make_machine(alloc, wanted.script, journal, &[])?;
+    expect_last(alloc, machine, row, Status::Done, wanted.replies)
 }
 
 /// Runs each script on a disk with this journal, to its end and with these replies.

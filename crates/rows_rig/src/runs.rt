@@ -9,7 +9,7 @@ use std::alloc::Global;
 const PIECES: [usize; 6] = [1, 2, 3, 7, 4096, usize::MAX];
 
 /// A run on a disk with a journal and no pages.
-#[derive(Clone, Copy, Debug)]
+#[derive(Clone, Copy)]
 pub struct Run<'a> {
     /// The journal that it begins on.
     pub before: &'a [u8],
@@ -56,6 +56,20 @@ fn machine_for(alloc: Global, run: &Run<'_>, piece: usize) -> Result<MemMachine,
     Ok(machine.with_pulls_of(piece))
 }
 
+/// The journal of a machine's disk is this. In its table it is this row, counted from 0.
+pub fn expect_journal(
+    alloc: Global,
+    machine: &mut MemMachine,
+    row: usize,
+    wanted: &[u8],
+) -> Result<(), RowError> {
+    let journal = read_journal(alloc, machine)?;
+    if journal.as_slice() != wanted {
+        return Err(RowError::Left { row, journal });
+    }
+    Ok(())
+}
+
 /// Runs a machine, which does as the run says.
 fn expect_run_on(
     alloc: Global,
@@ -64,11 +78,7 @@ fn expect_run_on(
     run: &Run<'_>,
 ) -> Result<(), RowError> {
     expect_end(alloc, machine, row, run.status, run.replies)?;
-    let journal = read_journal(alloc, machine)?;
-    if journal.as_slice() != run.after {
-        return Err(RowError::Left { row, journal });
-    }
-    Ok(())
+    expect_journal(alloc, machine, row, run.after)
 }
 
 /// A run is as it says with its input in pieces of this size.

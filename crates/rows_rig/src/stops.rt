@@ -3,7 +3,8 @@ ghost use Rattle.std.specs.Prelude.{IfOk};
 ghost use Rattle.machine_mem.specs.Meaning.{after_calls};
 ghost use Rattle.machine_mem.specs.Picks.{IsPicked};
 
-use crate::{RowError, load_entries};
+use crate::RowError;
+use crate::machines::count_entries;
 use machine_mem::{Fill, MemMachine, Pick, Picked, Tail};
 use machine_model::Image;
 use std::alloc::Global;
@@ -97,8 +98,7 @@ pub fn pick_entries(
     tail: Tail,
 ) -> Result<u64, RowError> {
     let picked = pick_image(alloc, machine, moment, tail)?;
-    let (_, entries) = load_entries(alloc, picked.image)?;
-    Ok(entries)
+    count_entries(alloc, picked.image)
 }
 
 /// Each image in `TAILS` that a stop may leave at a moment has at least and at most so many entries.

@@ -7,7 +7,7 @@
 //! each, and its start and its end in 8 each.
 
 /// A sublist: its bytes, and their SHA-256.
-#[derive(Clone, Copy, Debug)]
+#[derive(Clone, Copy)]
 pub struct Sublist<'a> {
     /// What lies in Pages.
     pub bytes: &'a [u8],

@@ -119,8 +119,7 @@ fn texts_that_are_too_long_come_before_the_line(rt: HostRuntime) -> Result<(), R
             b"\n",
         ],
     )?;
-    expect_long(alloc, &script)?;
-    Ok(())
+    expect_long(alloc, &script)
 }
 
 // Together they are within the limit.

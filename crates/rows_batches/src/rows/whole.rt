@@ -2,8 +2,8 @@
 use machine_mem::{CallKind, Fault, MemMachine, Tail};
 use machine_model::Image;
 use rows_rig::{
-    BATCHED_JOURNAL, FIRST_JOURNAL, MARKED_JOURNAL, Row, RowError, Run, TAILS, expect_end,
-    expect_in_pieces, expect_moments, expect_run, join, machine_after, machine_on, make_machine,
+    BATCHED_JOURNAL, FIRST_JOURNAL, MARKED_JOURNAL, Row, RowError, Run, TAILS, expect_in_pieces,
+    expect_last, expect_moments, expect_run, join, machine_after, machine_on, make_machine,
     pick_image, run_on,
 };
 use run_script::Status;
@@ -185,16 +185,9 @@ const BEFORE: &[u8] = b"text 5\nred a\nnone\n";
 
 const AFTER: &[u8] = b"text 4\nblue\ntext 3\nred\n";
 
-/// An image that a stop may leave has both texts of the batch, or none of them.
-fn expect_whole(
-    alloc: Global,
-    machine: &MemMachine,
-    moment: usize,
-    tail: Tail,
-) -> Result<(), RowError> {
-    let picked = pick_image(alloc, machine, moment, tail)?;
-    let mut asked = machine_on(alloc, b"show 7 20\nshow 8 20\n", picked.image, &[])?;
-    let status = run_on(alloc, &mut asked)?;
+/// A machine that is asked for the texts at 20 shows those before the batch, or those behind it.
+fn expect_texts(alloc: Global, asked: &mut MemMachine, moment: usize) -> Result<(), RowError> {
+    let status = run_on(alloc, asked)?;
     if status != Status::Done {
         return Err(RowError::Status {
             row: moment,
@@ -208,10 +201,24 @@ fn expect_whole(
     Ok(())
 }
 
-/// The same of the images in `TAILS` at a moment.
-fn expect_all_whole(alloc: Global, machine: &MemMachine, moment: usize) -> Result<(), RowError> {
-    for tail in &TAILS {
-        expect_whole(alloc, machine, moment, *tail)?;
+/// An image that a stop may leave has both texts of the batch, or none of them.
+fn expect_whole(
+    alloc: Global,
+    machine: &MemMachine,
+    moment: usize,
+    tail: Tail,
+) -> Result<(), RowError> {
+    let picked = pick_image(alloc, machine, moment, tail)?;
+    let mut asked = machine_on(alloc, b"show 7 20\nshow 8 20\n", picked.image, &[])?;
+    expect_texts(alloc, &mut asked, moment)
+}
+
+/// The same of the images in `TAILS` at each moment.
+fn expect_all_whole(alloc: Global, machine: &MemMachine) -> Result<(), RowError> {
+    for moment in 0..machine.moments() {
+        for tail in &TAILS {
+            expect_whole(alloc, machine, moment, *tail)?;
+        }
     }
     Ok(())
 }
@@ -220,10 +227,7 @@ fn expect_all_whole(alloc: Global, machine: &MemMachine, moment: usize) -> Resul
 fn a_stop_leaves_a_batch_whole_or_not_at_all(rt: HostRuntime) -> Result<(), RowError> {
     let alloc = rt.alloc();
     let machine = first_machine(alloc)?;
-    for moment in 0..machine.moments() {
-        expect_all_whole(alloc, &machine, moment)?;
-    }
-    Ok(())
+    expect_all_whole(alloc, &machine)
 }
 
 /// Scripts behind the mark that end within a batch, or are broken earlier, and the place.
@@ -295,8 +299,8 @@ fn expect_pull(alloc: Global, nth: u64, replies: &[u8]) -> Result<(), RowError> 
         nth,
         landed: 0,
     };
-    let mut machine = make_machine(alloc, BY_BYTES, MARKED_JOURNAL, &[fault])?.with_pulls_of(1);
-    expect_end(alloc, &mut machine, nth as usize, Status::Source, replies)
+    let machine = make_machine(alloc, BY_BYTES, MARKED_JOURNAL, &[fault])?.with_pulls_of(1);
+    expect_last(alloc, machine, nth as usize, Status::Source, replies)
 }
 
 // The reply comes when the last item is whole, and before more is read.
@@ -316,17 +320,9 @@ fn a_batch_that_is_carried_out_stays_before_one_that_breaks(
 ) -> Result<(), RowError> {
     let alloc = rt.alloc();
     let script = join(alloc, &[SCRIPT, b"batch 2\ndelete 7 30\n"])?;
-    let mut machine = machine_on(
-        alloc,
-        &script,
-        Image {
-            journal: Vec::from_slice(alloc, FIRST_JOURNAL)?,
-            pages: Vec::new(alloc),
-        },
-        &[],
-    )?;
+    let machine = make_machine(alloc, &script, FIRST_JOURNAL, &[])?;
     let status = Status::Script {
         at: script.len() as u64,
     };
-    expect_end(alloc, &mut machine, 0, status, REPLIES)
+    expect_last(alloc, machine, 0, status, REPLIES)
 }

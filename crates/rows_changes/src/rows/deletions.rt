@@ -1,7 +1,7 @@
 //! Deletions, by the calls of an open archive.
 use base_types::Time;
 use model_archive::Refusal;
-use rows_rig::{RowError, expect_changes, made, read_journal, refused, three_changes};
+use rows_rig::{RowError, expect_changes, expect_journal, made, refused, three_changes};
 
 /// The journal that the three changes make.
 const THREE_CHANGES: &[u8] = b"TIMETRAVELTEXT\x00\x01\
@@ -14,11 +14,7 @@ const THREE_CHANGES: &[u8] = b"TIMETRAVELTEXT\x00\x01\
 fn a_deleted_document_may_come_again(rt: HostRuntime) -> Result<(), RowError> {
     let alloc = rt.alloc();
     let mut machine = expect_changes(alloc, &three_changes())?;
-    let journal = read_journal(alloc, &mut machine)?;
-    if journal.as_slice() != THREE_CHANGES {
-        return Err(RowError::Left { row: 0, journal });
-    }
-    Ok(())
+    expect_journal(alloc, &mut machine, 0, THREE_CHANGES)
 }
 
 #[test]

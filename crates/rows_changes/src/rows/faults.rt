@@ -10,7 +10,7 @@ use std::alloc::Global;
 const SCRIPT: &[u8] = b"arrive 7 20 4\nblue\narrive 8 20 0\n\narrive 7 30 9\nred green\n";
 
 /// A disk to begin with, its journal and its entries; and a script with its replies there.
-#[derive(Clone, Copy, Debug)]
+#[derive(Clone, Copy)]
 struct Start<'a> {
     journal: &'a [u8],
     entries: u64,
@@ -19,7 +19,7 @@ struct Start<'a> {
 }
 
 /// The calls of a kind in a whole run, of which each fails in turn.
-#[derive(Clone, Copy, Debug)]
+#[derive(Clone, Copy)]
 struct Calls {
     call: CallKind,
     /// How many bytes of a failing write land nonetheless.
@@ -60,13 +60,23 @@ fn has_ended(
     Ok(false)
 }
 
-/// Runs the script with a fault, and answers whether it came to its end. It shows a front of the
-/// replies, and each image at each moment has the entries of the replies shown then, or one more.
+/// Runs a machine with the script and a fault, and answers whether it came to its end. It shows a front of
+/// the replies, and each image at each moment has the entries of the replies shown then, or one more.
+fn ends_on(
+    alloc: Global,
+    machine: &mut MemMachine,
+    start: &Start<'_>,
+    fault: Fault,
+) -> Result<bool, RowError> {
+    let status = run_on(alloc, machine)?;
+    expect_shown(alloc, machine, start.entries)?;
+    has_ended(alloc, machine, start, fault, status)
+}
+
+/// The same of a new machine.
 fn ends_despite(alloc: Global, start: &Start<'_>, fault: Fault) -> Result<bool, RowError> {
     let mut machine = make_machine(alloc, start.script, start.journal, &[fault])?;
-    let status = run_on(alloc, &mut machine)?;
-    expect_shown(alloc, &machine, start.entries)?;
-    has_ended(alloc, &machine, start, fault, status)
+    ends_on(alloc, &mut machine, start, fault)
 }
 
 /// Lets each of these calls fail in turn, and answers how many there are in the whole run.

@@ -48,13 +48,18 @@ fn expect_history(
     expect_change(alloc, &mut disk, &mut archive, &change)
 }
 
+/// The same at each moment, with what was written and with 0 in the bytes that are open.
+fn expect_histories(alloc: Global, machine: &MemMachine) -> Result<(), RowError> {
+    for moment in 0..machine.moments() {
+        expect_history(alloc, machine, moment, Fill::Written)?;
+        expect_history(alloc, machine, moment, Fill::Byte(0))?;
+    }
+    Ok(())
+}
+
 #[test]
 fn a_stop_leaves_an_archive_that_goes_on(rt: HostRuntime) -> Result<(), RowError> {
     let alloc = rt.alloc();
     let machine = expect_changes(alloc, &three_changes())?;
-    for moment in 0..machine.moments() {
-        expect_history(alloc, &machine, moment, Fill::Written)?;
-        expect_history(alloc, &machine, moment, Fill::Byte(0))?;
-    }
-    Ok(())
+    expect_histories(alloc, &machine)
 }

@@ -1,7 +1,7 @@
 //! The input in pieces of any size: the same replies, the same status and the same journal.
 use machine_mem::{CallKind, Fault};
 use rows_rig::{
-    MIXED_JOURNAL, MIXED_REPLIES, MIXED_SCRIPT, RowError, Run, expect_end, expect_in_pieces, join,
+    MIXED_JOURNAL, MIXED_REPLIES, MIXED_SCRIPT, RowError, Run, expect_in_pieces, expect_last, join,
     make_machine,
 };
 use run_script::Status;
@@ -134,9 +134,9 @@ fn expect_pull(alloc: Global, nth: u64) -> Result<(), RowError> {
         nth,
         landed: 0,
     };
-    let mut machine = make_machine(alloc, MIXED_SCRIPT, b"", &[fault])?.with_pulls_of(7);
     let replies = replies_by(nth.saturating_sub(1).saturating_mul(7));
-    expect_end(alloc, &mut machine, nth as usize, Status::Source, replies)
+    let machine = make_machine(alloc, MIXED_SCRIPT, b"", &[fault])?.with_pulls_of(7);
+    expect_last(alloc, machine, nth as usize, Status::Source, replies)
 }
 
 #[test]

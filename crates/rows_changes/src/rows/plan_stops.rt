@@ -3,7 +3,7 @@
 use machine_mem::{Fill, MemMachine, Tail};
 use machine_model::Image;
 use rows_rig::{
-    FIRST_PLAN, FOUR_CHANGES, Row, RowError, TAILS, disk_after, expect_moments, load_entries,
+    FIRST_PLAN, FOUR_CHANGES, Row, RowError, TAILS, disk_of, expect_moments, load_entries,
     machine_after, machine_on, new_disk, pick_image, run_on, whole_images,
 };
 use run_script::Status;
@@ -167,11 +167,24 @@ fn a_stop_leaves_no_less_where_pages_are_kept(rt: HostRuntime) -> Result<(), Row
 /// do.
 fn expect_same(alloc: Global, image: Image) -> Result<(), RowError> {
     let (load, changes) = load_entries(alloc, image)?;
-    for (row, image) in whole_images(alloc, &load)?.into_iter().enumerate() {
+    expect_changes_of(alloc, &load, changes)
+}
+
+/// Each image that a stop may leave of a machine's run has so many changes.
+fn expect_changes_of(alloc: Global, machine: &MemMachine, changes: u64) -> Result<(), RowError> {
+    for (row, image) in whole_images(alloc, machine)?.into_iter().enumerate() {
         let count = changes_on(alloc, image)?;
         if count != changes {
             return Err(RowError::Count { row, count });
         }
+    }
+    Ok(())
+}
+
+/// The same of each image that a stop may leave of a machine's run.
+fn expect_all_same(alloc: Global, machine: &MemMachine) -> Result<(), RowError> {
+    for image in whole_images(alloc, machine)? {
+        expect_same(alloc, image)?;
     }
     Ok(())
 }
@@ -182,10 +195,7 @@ fn a_stop_inside_the_load_that_follows_leaves_the_same_changes(
 ) -> Result<(), RowError> {
     let alloc = rt.alloc();
     let machine = machine_after(alloc, new_disk(alloc), &MIXED)?;
-    for image in whole_images(alloc, &machine)? {
-        expect_same(alloc, image)?;
-    }
-    Ok(())
+    expect_all_same(alloc, &machine)
 }
 
 // The load syncs. The three sublists are written and synced, and then the entry is appended: it is
@@ -195,7 +205,7 @@ fn an_entry_is_there_when_its_gate_is_open_and_its_sublists_stay(
     rt: HostRuntime,
 ) -> Result<(), RowError> {
     let alloc = rt.alloc();
-    let disk = disk_after(alloc, &new_disk(alloc), &FOUR_CHANGES)?;
+    let disk = disk_of(alloc, &FOUR_CHANGES)?;
     let machine = machine_after(alloc, disk, &FIRST_PLAN)?;
     let rows = [(0..8, 4, 4), (8..9, 4, 5), (9..11, 5, 5)];
     expect_moments(alloc, &machine, &rows)

@@ -2,8 +2,8 @@
 use machine_mem::MemMachine;
 use machine_model::{Area, Image};
 use rows_rig::{
-    FIRST_JOURNAL, FIRST_SCRIPT, NEW_JOURNAL, Row, RowError, Run, disk_after, expect_counts,
-    expect_runs, make_machine, many_arrivals, new_disk, read_journal, run_with,
+    FIRST_JOURNAL, FIRST_SCRIPT, NEW_JOURNAL, Row, RowError, Run, disk_of, expect_counts,
+    expect_journal, expect_runs, make_machine, many_arrivals, run_with,
 };
 use run_script::Status;
 use std::alloc::Global;
@@ -153,7 +153,7 @@ fn disk_of_100(alloc: Global) -> Result<Image, RowError> {
         script: &script,
         replies: &replies,
     };
-    disk_after(alloc, &new_disk(alloc), &row)
+    disk_of(alloc, &row)
 }
 
 #[test]
@@ -166,7 +166,7 @@ fn an_input_longer_than_a_block_is_read_whole(rt: HostRuntime) -> Result<(), Row
     expect_counts(alloc, &[(&disk.journal, 100)])
 }
 
-/// A run with this word is a usage fault, and touches nothing of the machine, whose journal is `journal`.
+/// A run of a machine with this word is a usage fault, and touches nothing of it; its journal is `journal`.
 fn expect_usage(
     alloc: Global,
     machine: &mut MemMachine,
@@ -181,21 +181,21 @@ fn expect_usage(
     if touched || machine.read_of(Area::Journal) != 0 {
         return Err(RowError::Touched { row });
     }
-    let journal = read_journal(alloc, machine)?;
-    if journal.as_slice() != b"journal".as_slice() {
-        return Err(RowError::Left { row, journal });
-    }
-    Ok(())
+    expect_journal(alloc, machine, row, b"journal")
+}
+
+/// The same of a new machine.
+fn expect_word(alloc: Global, row: usize, word: &str) -> Result<(), RowError> {
+    let mut machine = make_machine(alloc, FIRST_SCRIPT, b"journal", &[])?;
+    expect_usage(alloc, &mut machine, row, word)
 }
 
 #[test]
 fn a_word_that_asks_for_nothing_is_a_usage_fault_and_nothing_is_touched(
     rt: HostRuntime,
 ) -> Result<(), RowError> {
-    let alloc = rt.alloc();
     for (row, word) in ["", "x", "--help", "--generate"].iter().enumerate() {
-        let mut machine = make_machine(alloc, FIRST_SCRIPT, b"journal", &[])?;
-        expect_usage(alloc, &mut machine, row, word)?;
+        expect_word(rt.alloc(), row, word)?;
     }
     Ok(())
 }

@@ -2,25 +2,26 @@
 use machine_mem::MemMachine;
 use machine_model::Image;
 use rows_rig::{
-    FOUR_CHANGES, RowError, disk_after, expect_replies, expect_same, machine_on, new_disk,
-    read_image, run_with,
+    FOUR_CHANGES, RowError, disk_of, expect_replies, expect_same, machine_on, new_disk, read_image,
+    run_with,
 };
 use run_script::Status;
 use std::alloc::Global;
 
-/// Runs a machine with these words, which ends so and shows this.
-fn expect_words(
+/// Runs a machine with these words, which ends so and shows this. Answers what its disk holds then.
+fn run_words(
     alloc: Global,
     machine: &mut MemMachine,
     words: &[&str],
     wanted: Status,
     shown: &[u8],
-) -> Result<(), RowError> {
+) -> Result<Image, RowError> {
     let status = run_with(alloc, words, machine)?;
     if status != wanted {
         return Err(RowError::Status { row: 0, status });
     }
-    expect_replies(alloc, machine, 0, shown)
+    expect_replies(alloc, machine, 0, shown)?;
+    read_image(alloc, machine)
 }
 
 /// The disk that a run with these words leaves, which ends so and shows this.
@@ -32,8 +33,7 @@ fn disk_after_words(
     shown: &[u8],
 ) -> Result<Image, RowError> {
     let mut machine = machine_on(alloc, b"find 10 red\n", disk, &[])?;
-    expect_words(alloc, &mut machine, words, wanted, shown)?;
-    read_image(alloc, &mut machine)
+    run_words(alloc, &mut machine, words, wanted, shown)
 }
 
 /// On this disk, which has so many entries, no sample is made, and its journal stays.
@@ -63,7 +63,7 @@ fn a_sample_of_two_changes_is_told_and_an_archive_with_entries_refused(
 #[test]
 fn an_archive_that_was_filled_by_a_script_is_refused_too(rt: HostRuntime) -> Result<(), RowError> {
     let alloc = rt.alloc();
-    let disk = disk_after(alloc, &new_disk(alloc), &FOUR_CHANGES)?;
+    let disk = disk_of(alloc, &FOUR_CHANGES)?;
     expect_full(alloc, disk, &["--count=1", "--generate=9"], 4)
 }
 

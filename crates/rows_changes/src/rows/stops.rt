@@ -81,6 +81,18 @@ fn expect_filled(
     Ok(())
 }
 
+/// The same of each of these moments.
+fn expect_all_filled(
+    alloc: Global,
+    machine: &MemMachine,
+    rows: &[(usize, Fill, u64)],
+) -> Result<(), RowError> {
+    for (moment, fill, wanted) in rows {
+        expect_filled(alloc, machine, *moment, *fill, *wanted)?;
+    }
+    Ok(())
+}
+
 /// The machine behind 4,096 arrivals. Behind the load's three calls each has five.
 fn machine_behind_4096(alloc: Global) -> Result<MemMachine, RowError> {
     let (script, replies) = many_arrivals(alloc, 4096, b"x")?;
@@ -91,24 +103,23 @@ fn machine_behind_4096(alloc: Global) -> Result<MemMachine, RowError> {
     machine_behind(alloc, &row, 20_484)
 }
 
-// Of an arrival's third call, which writes the open gate, all bytes may be left, or none.
+/// Moments among these, what stands in the bytes that are open, and how many entries are there.
+const AMONG_4096: [(usize, Fill, u64); 5] = [
+    (3, Fill::Written, 0),
+    (10_243, Fill::Written, 2048),
+    // of an arrival's third call, which writes the open gate, all bytes may be left, or none
+    (10_246, Fill::Written, 2049),
+    (10_246, Fill::Byte(0), 2048),
+    (20_483, Fill::Byte(0), 4096),
+];
+
 #[test]
 fn a_stop_among_4096_arrivals_leaves_what_was_acknowledged_or_one_more(
     rt: HostRuntime,
 ) -> Result<(), RowError> {
     let alloc = rt.alloc();
     let machine = machine_behind_4096(alloc)?;
-    let rows = [
-        (3, Fill::Written, 0),
-        (10_243, Fill::Written, 2048),
-        (10_246, Fill::Written, 2049),
-        (10_246, Fill::Byte(0), 2048),
-        (20_483, Fill::Byte(0), 4096),
-    ];
-    for (moment, fill, wanted) in &rows {
-        expect_filled(alloc, &machine, *moment, *fill, *wanted)?;
-    }
-    Ok(())
+    expect_all_filled(alloc, &machine, &AMONG_4096)
 }
 
 /// The archive with this journal, which the mixed script may leave: the journal spells as many of the script's
@@ -152,16 +163,21 @@ fn expect_same_at(alloc: Global, machine: &MemMachine, moment: usize) -> Result<
     Ok(())
 }
 
+/// The same at each moment.
+fn expect_all_same(alloc: Global, machine: &MemMachine) -> Result<(), RowError> {
+    for moment in 0..machine.moments() {
+        expect_same_at(alloc, machine, moment)?;
+    }
+    Ok(())
+}
+
 #[test]
 fn a_stop_inside_the_load_that_follows_leaves_the_same_history(
     rt: HostRuntime,
 ) -> Result<(), RowError> {
     let alloc = rt.alloc();
     let machine = machine_after(alloc, new_disk(alloc), &MIXED)?;
-    for moment in 0..machine.moments() {
-        expect_same_at(alloc, &machine, moment)?;
-    }
-    Ok(())
+    expect_all_same(alloc, &machine)
 }
 
 /// The machine on which the first script ran until this call failed: it ended with this status, and showed
@@ -198,33 +214,47 @@ fn expect_gate(alloc: Global, machine: &MemMachine, moment: usize) -> Result<(),
     expect_entries(alloc, machine, moment, 0, 1)
 }
 
-#[test]
-fn where_the_gate_is_not_synced_its_byte_decides(rt: HostRuntime) -> Result<(), RowError> {
-    let alloc = rt.alloc();
-    let machine = cut_short(alloc, CallKind::Sync, 4, Status::Disk)?;
+/// At the first six moments of such a run there is no entry, and from there on the byte of the gate decides.
+fn expect_gates(alloc: Global, machine: &MemMachine) -> Result<(), RowError> {
     for moment in 0..6 {
-        expect_entries(alloc, &machine, moment, 0, 0)?;
+        expect_entries(alloc, machine, moment, 0, 0)?;
     }
     for moment in 6..machine.moments() {
-        expect_gate(alloc, &machine, moment)?;
+        expect_gate(alloc, machine, moment)?;
     }
     Ok(())
 }
 
 #[test]
+fn where_the_gate_is_not_synced_its_byte_decides(rt: HostRuntime) -> Result<(), RowError> {
+    let alloc = rt.alloc();
+    let machine = cut_short(alloc, CallKind::Sync, 4, Status::Disk)?;
+    expect_gates(alloc, &machine)
+}
+
+/// Where this call of the first script's run fails, there is no entry at any moment.
+fn expect_none(alloc: Global, call: CallKind, nth: u64, status: Status) -> Result<(), RowError> {
+    let machine = cut_short(alloc, call, nth, status)?;
+    expect_moments(alloc, &machine, &[(0..machine.moments(), 0, 0)])
+}
+
+#[test]
 fn a_fault_before_the_gate_leaves_no_entry(rt: HostRuntime) -> Result<(), RowError> {
     let alloc = rt.alloc();
-    let unsynced = cut_short(alloc, CallKind::Sync, 3, Status::Disk)?;
-    expect_moments(alloc, &unsynced, &[(0..unsynced.moments(), 0, 0)])?;
-    let unread = cut_short(alloc, CallKind::Pull, 1, Status::Source)?;
-    expect_moments(alloc, &unread, &[(0..unread.moments(), 0, 0)])
+    expect_none(alloc, CallKind::Sync, 3, Status::Disk)?;
+    expect_none(alloc, CallKind::Pull, 1, Status::Source)
+}
+
+/// The one entry is there at the last moment, and at each moment what was acknowledged or one more.
+fn expect_one_at_last(alloc: Global, machine: &MemMachine) -> Result<(), RowError> {
+    let last = machine.moments() - 1;
+    expect_entries(alloc, machine, last, 1, 1)?;
+    expect_shown(alloc, machine, 0)
 }
 
 #[test]
 fn an_arrival_whose_reply_fails_is_in_the_journal(rt: HostRuntime) -> Result<(), RowError> {
     let alloc = rt.alloc();
     let machine = cut_short(alloc, CallKind::Push, 1, Status::Sink)?;
-    let last = machine.moments() - 1;
-    expect_entries(alloc, &machine, last, 1, 1)?;
-    expect_shown(alloc, &machine, 0)
+    expect_one_at_last(alloc, &machine)
 }

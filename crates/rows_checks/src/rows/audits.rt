@@ -28,6 +28,18 @@ fn expect_end(
     expect_replies(alloc, machine, row, shown)
 }
 
+/// The same, and answers what the machine's disk holds then.
+fn run_audit(
+    alloc: Global,
+    machine: &mut MemMachine,
+    row: usize,
+    wanted: AuditStatus,
+    shown: &[u8],
+) -> Result<Image, RowError> {
+    expect_end(alloc, machine, row, wanted, shown)?;
+    read_image(alloc, machine)
+}
+
 /// An audit of a disk, some calls of which fail, ends so and shows this, and the disk is as it was. In its table
 /// the disk is this row, counted from 0.
 pub(crate) fn expect_audit(
@@ -39,13 +51,12 @@ pub(crate) fn expect_audit(
 ) -> Result<(), RowError> {
     let copy = copy_image(alloc, disk)?;
     let mut machine = machine_on(alloc, b"find 15 v\n", copy, faults)?;
-    expect_end(alloc, &mut machine, row, wanted, shown)?;
-    let left = read_image(alloc, &mut machine)?;
+    let left = run_audit(alloc, &mut machine, row, wanted, shown)?;
     expect_same(row, &left, disk)
 }
 
 /// What is told of a disk.
-#[derive(Clone, Copy, Debug)]
+#[derive(Clone, Copy)]
 pub(crate) struct Audited<'a> {
     /// Where its Pages have other bytes, and which.
     pub(crate) bytes: &'a [(usize, u8)],
@@ -295,29 +306,38 @@ fn expect_fault(
     expect_audit(alloc, nth as usize, (disk, &[fault]), wanted, b"")
 }
 
+/// Each read of the disk failing in turn, and the push of what is told.
+fn expect_faults(alloc: Global, disk: &Image) -> Result<(), RowError> {
+    for nth in 1..=5 {
+        expect_fault(alloc, disk, CallKind::Read, nth, AuditStatus::Disk)?;
+    }
+    expect_fault(alloc, disk, CallKind::Push, 1, AuditStatus::Sink)?;
+    // the same where a digest would be told
+    let altered = altered(alloc, disk, &AUDITS[8])?;
+    expect_fault(alloc, &altered, CallKind::Push, 1, AuditStatus::Sink)
+}
+
 #[test]
 fn a_call_that_fails_is_told_and_nothing_else(rt: HostRuntime) -> Result<(), RowError> {
     let alloc = rt.alloc();
     let disk = first_disk(alloc)?;
-    for nth in 1..=5 {
-        expect_fault(alloc, &disk, CallKind::Read, nth, AuditStatus::Disk)?;
-    }
-    expect_fault(alloc, &disk, CallKind::Push, 1, AuditStatus::Sink)?;
-    // the same where a digest would be told
-    let altered = altered(alloc, &disk, &AUDITS[8])?;
-    expect_fault(alloc, &altered, CallKind::Push, 1, AuditStatus::Sink)
+    expect_faults(alloc, &disk)
 }
 
-// The three sublists have 18, 22 and 18 bytes.
-#[test]
-fn an_audit_reads_each_sublist_once(rt: HostRuntime) -> Result<(), RowError> {
-    let alloc = rt.alloc();
-    let disk = first_disk(alloc)?;
-    let mut machine = machine_on(alloc, b"", disk, &[])?;
-    expect_end(alloc, &mut machine, 0, AuditStatus::Sound, b"sound 1 3\n")?;
+/// An audit of the first disk reads so many bytes of Pages: the three sublists have 18, 22 and 18.
+fn expect_read(alloc: Global, machine: &mut MemMachine) -> Result<(), RowError> {
+    expect_end(alloc, machine, 0, AuditStatus::Sound, b"sound 1 3\n")?;
     let count = machine.read_of(Area::Pages);
     if count != 58 {
         return Err(RowError::Count { row: 0, count });
     }
     Ok(())
+}
+
+#[test]
+fn an_audit_reads_each_sublist_once(rt: HostRuntime) -> Result<(), RowError> {
+    let alloc = rt.alloc();
+    let disk = first_disk(alloc)?;
+    let mut machine = machine_on(alloc, b"", disk, &[])?;
+    expect_read(alloc, &mut machine)
 }

@@ -2,9 +2,9 @@
 use crate::rows::audits::{Audited, expect_audit, expect_audits};
 use machine_model::Image;
 use rows_rig::{
-    FIRST_PLAN, FOUR_CHANGES, Plan, Row, RowError, batched, disk_after, disk_after_all,
-    expect_entry, expect_in_order, expect_status, expect_told, first_segments, foreign_batches,
-    journal_of, long_batch, new_disk, pages_of, plan_of_v, plan_record,
+    FIRST_PLAN, FOUR_CHANGES, Plan, Row, RowError, batched, disk_after_all, disk_of, expect_entry,
+    expect_in_order, expect_status, expect_told, first_segments, foreign_batches, journal_of,
+    long_batch, new_disk, pages_of, plan_of_v, plan_record,
 };
 use run_audit::AuditStatus;
 use run_script::Status;
@@ -97,7 +97,7 @@ const WORDS_AT_ONCE: Row<'static> = Row {
 #[test]
 fn the_first_word_of_the_batch_comes_first(rt: HostRuntime) -> Result<(), RowError> {
     let alloc = rt.alloc();
-    let disk = disk_after(alloc, &new_disk(alloc), &WORDS_AT_ONCE)?;
+    let disk = disk_of(alloc, &WORDS_AT_ONCE)?;
     let rows: [(&[(usize, u8)], &[u8]); 3] = [
         (&[(15, 2)], b"differs a 0 15 02 01\n"),
         (&[(15, 2), (4096 + 17, 9)], b"differs b 0 17 09 0a\n"),
@@ -118,7 +118,7 @@ const HALF_AT_ONCE: &[u8] = b"\xa5\x00\x00\x00\x2a\x04\x00\x00\x00\x02\
 
 /// A disk with the batch of four, a plan behind it, more records, and the first plan's sublists in its Pages, of
 /// which so many bytes are left. It is no archive's, which shows at this place.
-#[derive(Clone, Copy, Debug)]
+#[derive(Clone, Copy)]
 struct Planned<'a> {
     plan: Plan<'a>,
     more: &'a [u8],
@@ -202,7 +202,7 @@ fn the_first_entry_that_is_wrong_is_named_before_a_batch_that_is(
 }
 
 /// A disk with this journal and no pages.
-fn disk_of(alloc: Global, journal: &[u8]) -> Result<Image, AllocError> {
+fn journal_disk(alloc: Global, journal: &[u8]) -> Result<Image, AllocError> {
     Ok(Image {
         journal: Vec::from_slice(alloc, journal)?,
         pages: Vec::new(alloc),
@@ -214,7 +214,7 @@ fn an_audit_refuses_a_batch_that_is_none_at_its_place(rt: HostRuntime) -> Result
     let alloc = rt.alloc();
     let journals = foreign_batches(alloc)?;
     for (row, (journal, at)) in journals.iter().enumerate() {
-        let disk = disk_of(alloc, journal)?;
+        let disk = journal_disk(alloc, journal)?;
         expect_audit(
             alloc,
             row,
@@ -236,7 +236,7 @@ fn an_audit_refuses_a_batch_that_is_too_long_at_its_gate(rt: HostRuntime) -> Res
     ];
     for (row, (last, status, told)) in rows.iter().enumerate() {
         let journal = batched(alloc, &long_batch(alloc, last)?)?;
-        let disk = disk_of(alloc, &journal)?;
+        let disk = journal_disk(alloc, &journal)?;
         expect_audit(alloc, row, (&disk, &[]), *status, told)?;
     }
     Ok(())

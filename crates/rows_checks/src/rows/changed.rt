@@ -1,8 +1,9 @@
 //! Sublists with bytes that changed: the first is told, with what was found there and what is wanted.
+use machine_model::Image;
 use rows_rig::{
-    CLIPPED_LIVES, Damaged, LIFE_OF_1, LIVES_OF_1_AND_2, Row, RowError, Sublist, disk_after,
-    disk_with, disk_with_bytes, expect_damaged, expect_on, expect_planned, expect_same,
-    expect_told, first_disk, first_segments, plan_of_v, segment_at, verify,
+    CLIPPED_LIVES, Damaged, LIFE_OF_1, LIVES_OF_1_AND_2, Row, RowError, Sublist, disk_with,
+    disk_with_bytes, expect_damaged, expect_kept, expect_on, expect_planned, expect_told,
+    first_disk, first_segments, plan_of_v, put_byte, segment_at, verify,
 };
 use std::alloc::Global;
 
@@ -48,8 +49,7 @@ fn bytes_whose_digest_was_made_anew_are_seen_by_the_check_alone(
         script: b"find 15 v\nverify\nfind 15 v\n",
         replies: b"hit 1 2\nend 1 read 1\ndiffers v 0 6 02 01\nhit 1 2\nend 1 read 1\n",
     };
-    let left = disk_after(alloc, &disk, &row)?;
-    expect_same(0, &left, &disk)
+    expect_kept(alloc, &disk, &row)
 }
 
 // Under the digest that the texts' sublist has, the same bytes end the run at the first question that reads
@@ -96,18 +96,22 @@ const EACH_BYTE: [(usize, &[u8]); 18] = [
     (17, b"differs v 0 17 a5 1e\n"),
 ];
 
-/// With the byte a5 in this place of Pages the check tells this and the run goes on, and a question that reads it ends
-/// the run.
+/// With the byte a5 in this place of Pages the check tells this, and a question that reads it ends the run.
 fn expect_byte(alloc: Global, at: usize, told: &[u8]) -> Result<(), RowError> {
-    let disk = first_disk(alloc)?;
-    let changed = disk_with_bytes(alloc, &disk, &[(at, 0xa5)])?;
-    expect_on(alloc, &changed, &[verify(told)])?;
+    let mut disk = first_disk(alloc)?;
+    put_byte(&mut disk.pages, at, 0xa5)?;
+    expect_changed(alloc, &disk, told)
+}
+
+/// A check of the disk tells this and the run goes on, and a question that reads the first sublist ends the run.
+fn expect_changed(alloc: Global, disk: &Image, told: &[u8]) -> Result<(), RowError> {
+    expect_on(alloc, disk, &[verify(told)])?;
     let question = Damaged {
         script: b"find 15 v\n",
         replies: b"",
         line: "tt_archive: damaged sublist at page 0: digest",
     };
-    expect_damaged(alloc, &changed, &[question])
+    expect_damaged(alloc, disk, &[question])
 }
 
 #[test]

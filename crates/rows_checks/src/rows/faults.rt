@@ -41,14 +41,12 @@ fn tells_despite(alloc: Global, disk: &Image, nth: u64) -> Result<bool, RowError
     has_told(alloc, &mut machine, disk, nth as usize)
 }
 
-// Each read of the load and of the check in turn; the three sublists are read behind the load and the texts.
-#[test]
-fn a_read_that_fails_ends_the_run_and_nothing_is_told(rt: HostRuntime) -> Result<(), RowError> {
-    let alloc = rt.alloc();
-    let disk = first_disk(alloc)?;
+/// Each read of the load and of the check of a disk in turn; the three sublists are read behind the load and the
+/// texts.
+fn expect_faults(alloc: Global, disk: &Image) -> Result<(), RowError> {
     let mut failed = 0u64;
     for nth in 1..=40 {
-        if !tells_despite(alloc, &disk, nth)? {
+        if !tells_despite(alloc, disk, nth)? {
             failed = failed.saturating_add(1);
             if failed != nth {
                 return Err(RowError::Count {
@@ -65,4 +63,11 @@ fn a_read_that_fails_ends_the_run_and_nothing_is_told(rt: HostRuntime) -> Result
         });
     }
     Ok(())
+}
+
+#[test]
+fn a_read_that_fails_ends_the_run_and_nothing_is_told(rt: HostRuntime) -> Result<(), RowError> {
+    let alloc = rt.alloc();
+    let disk = first_disk(alloc)?;
+    expect_faults(alloc, &disk)
 }

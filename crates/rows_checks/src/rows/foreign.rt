@@ -99,7 +99,7 @@ fn a_plan_that_was_replaced_has_no_live_place(rt: HostRuntime) -> Result<(), Row
 
 /// A disk with the four changes, a plan and more records behind it, and the first plan's sublists in its
 /// Pages, of which so many bytes are left. Its run ends so.
-#[derive(Clone, Copy, Debug)]
+#[derive(Clone, Copy)]
 struct Planned<'a> {
     plan: Plan<'a>,
     more: &'a [u8],

@@ -3,9 +3,9 @@ use crate::rows::journals::{FOURTH_ARRIVES, THIRD_ARRIVES, THIRD_ENDS, two_words
 use machine_model::Image;
 use rows_rig::{
     FIRST_LIFE, FOUR_CHANGES, FOUR_RECORDS, GAP_CHANGES, GAP_RECORDS, LIFE_OF_1, LIFE_OF_3,
-    LIVES_OF_1_AND_2, NOTHING, Plan, Row, RowError, Segment, disk_after, expect_entry, expect_held,
-    expect_left, first_disk, first_segments, gap_segments, join, new_disk, plan_of_v, plan_record,
-    segment_at,
+    LIVES_OF_1_AND_2, NOTHING, Plan, Row, RowError, Segment, disk_after_all, disk_of, expect_entry,
+    expect_held, expect_left, first_disk, first_segments, gap_segments, join, plan_of_v,
+    plan_record, segment_at,
 };
 use std::alloc::{AllocError, Global};
 
@@ -113,9 +113,9 @@ fn a_later_plan_takes_the_lowest_pages_that_are_free(rt: HostRuntime) -> Result<
     let alloc = rt.alloc();
     let (eight, ten) = records_of_plans(alloc)?;
     let first = first_disk(alloc)?;
-    let second = disk_after(alloc, &first, &GOES_ON)?;
+    let second = disk_after_all(alloc, first, &[GOES_ON])?;
     expect_second(alloc, &second, &eight)?;
-    let third = disk_after(alloc, &second, &GOES_FURTHER)?;
+    let third = disk_after_all(alloc, second, &[GOES_FURTHER])?;
     expect_left(alloc, &third, &[&ten], &third_segments())
 }
 
@@ -129,7 +129,7 @@ const IN_ONE_RUN: Row<'static> = Row {
 fn one_run_leaves_what_several_leave(rt: HostRuntime) -> Result<(), RowError> {
     let alloc = rt.alloc();
     let (_, ten) = records_of_plans(alloc)?;
-    let disk = disk_after(alloc, &new_disk(alloc), &IN_ONE_RUN)?;
+    let disk = disk_of(alloc, &IN_ONE_RUN)?;
     expect_left(alloc, &disk, &[&ten], &third_segments())
 }
 
@@ -149,7 +149,7 @@ fn plans_of_two_words_share_no_page(rt: HostRuntime) -> Result<(), RowError> {
         (b"w".as_slice(), 0),
     ];
     let journal = two_words_journal(alloc, &plans)?;
-    let disk = disk_after(alloc, &new_disk(alloc), &TWO_WORDS)?;
+    let disk = disk_of(alloc, &TWO_WORDS)?;
     expect_held(&disk.pages, &segment_at(10, 2, FIRST_LIFE))?;
     expect_held(&disk.pages, &segment_at(10, 0, FIRST_LIFE))?;
     if disk.journal != journal {

@@ -2,8 +2,8 @@
 //! blocks. A program that knows the formats alone made its files.
 use rows_rig::{
     FIRST_CERTIFICATE, FLAT, FOUR_RECORDS, LIFE_OF_1, LIVES_OF_1_AND_2, Plan, Row, RowError,
-    Segment, disk_after, expect_held, expect_left, expect_on, flat_disk, flat_segments, plan_of_v,
-    plan_record, segment_at,
+    Segment, disk_after_all, expect_held, expect_left, expect_on, flat_disk, flat_segments,
+    plan_of_v, plan_record, segment_at,
 };
 use std::alloc::{AllocError, Global};
 
@@ -74,7 +74,8 @@ fn a_new_plan_is_in_blocks_and_then_the_flat_ones_pages_are_free(
         script: b"plan v guarantee 1/1\nplan v guarantee 2/1\ncertificate v\nfind 25 v\n",
         replies: b"plan 6 segments 3 space 4 full 2 horizon 40\nplan 7 segments 1 space 2 full 2 horizon 40\nsegment 10 40 2\nnode 10 0\nnode 20 1\nnode 30 2\nnode 40 2\nend 1 space 2\nhit 1 1\nhit 2 1\nend 2 read 2\n",
     };
-    let disk = disk_after(alloc, &flat_disk(alloc)?, &row)?;
+    let before = flat_disk(alloc)?;
+    let disk = disk_after_all(alloc, before, &[row])?;
     for held in &sixth_segments() {
         expect_held(&disk.pages, held)?;
     }

@@ -1,8 +1,6 @@
 //! Plans of thousands of segments.
 use machine_model::Image;
-use rows_rig::{
-    Row, RowError, Sublist, disk_after, expect_held, expect_on, many_lives, new_disk, segment_at,
-};
+use rows_rig::{Row, RowError, Sublist, disk_of, expect_held, expect_on, many_lives, segment_at};
 use std::alloc::Global;
 
 /// Document 1 has the word once in [4096, 4097).
@@ -21,7 +19,7 @@ fn many_disk(alloc: Global, times: u64, reply: &[u8]) -> Result<Image, RowError>
         script: &script,
         replies: &replies,
     };
-    disk_after(alloc, &new_disk(alloc), &row)
+    disk_of(alloc, &row)
 }
 
 /// What is asked of such a disk.

@@ -1,6 +1,6 @@
 //! A page with forty versions and two hundred notes, as a collection may have them: plans of twelve words,
 //! questions by them, and the check.
-use rows_rig::{Row, RowError, disk_after, expect_check, new_disk, put_lines};
+use rows_rig::{Row, RowError, disk_of, expect_check, put_lines};
 use std::alloc::{AllocError, Global};
 
 /// Seconds of a day.
@@ -116,6 +116,6 @@ fn a_page_of_forty_versions_is_planned_asked_and_sound(rt: HostRuntime) -> Resul
         script: &script,
         replies: &replies,
     };
-    let disk = disk_after(alloc, &new_disk(alloc), &row)?;
+    let disk = disk_of(alloc, &row)?;
     expect_check(alloc, disk, 0, b"sound 12 23\n")
 }

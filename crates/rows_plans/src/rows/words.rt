@@ -1,5 +1,5 @@
 //! Archives with plans of several words: words come in the order in which the texts have them first.
-use rows_rig::{Row, RowError, disk_after, expect_told, new_disk};
+use rows_rig::{Row, RowError, disk_of, expect_told};
 
 /// The texts have `b` first.
 const B_AND_A: Row<'static> = Row {
@@ -11,7 +11,7 @@ const B_AND_A: Row<'static> = Row {
 #[test]
 fn the_first_word_of_the_texts_comes_first(rt: HostRuntime) -> Result<(), RowError> {
     let alloc = rt.alloc();
-    let disk = disk_after(alloc, &new_disk(alloc), &B_AND_A)?;
+    let disk = disk_of(alloc, &B_AND_A)?;
     let rows: [(&[(usize, u8)], &[u8]); 4] = [
         (&[(15, 2)], b"differs a 0 15 02 01\n"),
         (&[(15, 2), (4096 + 17, 9)], b"differs b 0 17 09 0a\n"),
@@ -31,7 +31,7 @@ const STRASSE: Row<'static> = Row {
 #[test]
 fn a_word_is_told_by_its_key(rt: HostRuntime) -> Result<(), RowError> {
     let alloc = rt.alloc();
-    let disk = disk_after(alloc, &new_disk(alloc), &STRASSE)?;
+    let disk = disk_of(alloc, &STRASSE)?;
     let rows: [(&[(usize, u8)], &[u8]); 1] = [(&[(0, 0)], b"differs strasse 0 0 00 01\n")];
     expect_told(alloc, &disk, &rows)
 }

@@ -1,8 +1,8 @@
 //! The first rows of what is found as of a time, by the tops of blocks.
 use machine_model::Image;
 use rows_rig::{
-    Damaged, Row, RowError, disk_after, disk_with_bytes, expect_damaged, expect_on, expect_rows,
-    first_disk, flat_disk, new_disk, put_byte, put_lines,
+    Damaged, Row, RowError, disk_of, disk_with_bytes, expect_damaged, expect_on, expect_rows,
+    first_disk, flat_disk, put_byte, put_lines,
 };
 use std::alloc::Global;
 
@@ -29,7 +29,7 @@ fn two_blocks(alloc: Global) -> Result<Image, RowError> {
         script: &script,
         replies: &replies,
     };
-    disk_after(alloc, &new_disk(alloc), &row)
+    disk_of(alloc, &row)
 }
 
 // The second block's postings have the score 1, and the first one's come first.

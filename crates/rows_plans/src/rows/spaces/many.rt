@@ -1,5 +1,5 @@
 //! Lists with as many boundaries as may all be cuts, and with more.
-use rows_rig::{Row, RowError, disk_after, expect_on, many_lives, new_disk};
+use rows_rig::{Row, RowError, disk_of, expect_on, many_lives};
 use std::alloc::Global;
 
 /// A plan behind so many lives has its reply, and the questions of a row have its answers on the disk that it
@@ -17,7 +17,7 @@ fn expect_plan(
         script: &script,
         replies: &replies,
     };
-    let disk = disk_after(alloc, &new_disk(alloc), &row)?;
+    let disk = disk_of(alloc, &row)?;
     expect_on(alloc, &disk, &[questions])
 }
 

@@ -1,8 +1,9 @@
 //! What plans under a space bound leave in the journal and in Pages.
 use crate::rows::spaces::plans::plan_of;
+use machine_model::Image;
 use rows_rig::{
     FOUR_CHANGES, FOUR_RECORDS, GAP_CHANGES, GAP_RECORDS, GUARANTEE, LIFE_OF_1, LIVES_OF_1_AND_2,
-    Plan, Row, RowError, SINCE_30, UNIFORM, disk_after, disk_after_all, expect_entry, expect_left,
+    Plan, Row, RowError, SINCE_30, UNIFORM, disk_after_all, disk_of, expect_entry, expect_left,
     first_segments, gap_segments, new_disk, plan_record, segment_at,
 };
 use std::alloc::{AllocError, Global};
@@ -104,17 +105,32 @@ fn put_record(alloc: Global, records: &mut Vec<u8>, plan: &Plan<'_>) -> Result<(
     records.extend_from_slice(&record)
 }
 
+/// A plan has its reply on a disk with these records, and leaves its record behind them and its sublists. Answers
+/// the disk that it leaves.
+fn expect_turn(
+    alloc: Global,
+    disk: Image,
+    records: &mut Vec<u8>,
+    (row, plan): &(Row<'_>, Plan<'_>),
+) -> Result<Image, RowError> {
+    put_record(alloc, records, plan)?;
+    let left = disk_after_all(alloc, disk, &[*row])?;
+    expect_left(alloc, &left, &[records.as_slice()], plan.segments)?;
+    Ok(left)
+}
+
 /// Plans have their replies behind the four changes, one behind the other, and each leaves its record and its
-/// sublists. Answers all records.
-fn expect_turns(alloc: Global, rows: &[(Row<'_>, Plan<'_>)]) -> Result<Vec<u8>, RowError> {
-    let mut disk = disk_after(alloc, &new_disk(alloc), &FOUR_CHANGES)?;
-    let mut records = Vec::from_slice(alloc, FOUR_RECORDS)?;
-    for (row, plan) in rows {
-        disk = disk_after(alloc, &disk, row)?;
-        put_record(alloc, &mut records, plan)?;
-        expect_left(alloc, &disk, &[&records], plan.segments)?;
+/// sublists. Adds all records.
+fn expect_turns(
+    alloc: Global,
+    records: &mut Vec<u8>,
+    rows: &[(Row<'_>, Plan<'_>)],
+) -> Result<(), RowError> {
+    let mut disk = disk_of(alloc, &FOUR_CHANGES)?;
+    for row in rows {
+        disk = expect_turn(alloc, disk, records, row)?;
     }
-    Ok(records)
+    Ok(())
 }
 
 // A plan lives while the next one is written, and its pages are free behind that one.
@@ -142,7 +158,8 @@ fn the_pages_of_a_plan_of_another_kind_are_free_again(rt: HostRuntime) -> Result
         (fourth, plan_of(UNIFORM, 2, 1, &eighth)),
         (last, plan_of(GUARANTEE, 1, 1, &ninth)),
     ];
-    let records = expect_turns(alloc, &rows)?;
+    let mut records = Vec::from_slice(alloc, FOUR_RECORDS)?;
+    expect_turns(alloc, &mut records, &rows)?;
     // and in one run
     let left = disk_after_all(alloc, new_disk(alloc), &[FOUR_CHANGES, FIVE_IN_ONE])?;
     expect_left(alloc, &left, &[&records], &ninth)

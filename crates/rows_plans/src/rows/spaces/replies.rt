@@ -2,8 +2,8 @@
 use crate::rows::spaces::plans::{BY_ONE, BY_THREE, BY_TWO, QUESTIONS, WITHOUT_A_PLAN};
 use machine_model::Image;
 use rows_rig::{
-    FOUR_CHANGES, Row, RowError, disk_after, expect_behind, expect_in_order, expect_on, join,
-    new_disk,
+    FOUR_CHANGES, Row, RowError, disk_after, disk_of, expect_behind, expect_in_order, expect_on,
+    join,
 };
 use std::alloc::Global;
 
@@ -37,7 +37,7 @@ fn expect_each<'x>(alloc: Global, plans: &[Row<'x>], answers: &'x [u8]) -> Resul
         replies: answers,
     };
     let rows = [questions, NO_CERTIFICATE];
-    let disk = disk_after(alloc, &new_disk(alloc), &FOUR_CHANGES)?;
+    let disk = disk_of(alloc, &FOUR_CHANGES)?;
     for plan in plans {
         let left = disk_planned(alloc, &disk, plan, answers)?;
         expect_on(alloc, &left, &rows)?;

@@ -3,7 +3,7 @@
 use machine_mem::MemMachine;
 use machine_model::Image;
 use rows_rig::{
-    FOUR_CHANGES, Row, RowError, TAILS, copy_image, disk_after_all, expect_end, expect_moments,
+    FOUR_CHANGES, Row, RowError, TAILS, copy_image, disk_after_all, disk_of, expect_moments,
     machine_after, machine_on, new_disk, pick_image, run_on, whole_images,
 };
 use run_script::Status;
@@ -16,7 +16,7 @@ fn expect_stops(
     plan: &Row<'_>,
     moments: &[(Range<usize>, u64, u64)],
 ) -> Result<(), RowError> {
-    let disk = disk_after_all(alloc, new_disk(alloc), &[FOUR_CHANGES])?;
+    let disk = disk_of(alloc, &FOUR_CHANGES)?;
     let machine = machine_after(alloc, disk, plan)?;
     expect_moments(alloc, &machine, moments)
 }
@@ -53,6 +53,12 @@ const OLD_PLAN: Row<'static> = Row {
 const NEW_PLAN: Row<'static> = Row {
     script: b"plan v space 2/1 uniform\n",
     replies: b"plan 6 segments 3 space 4 full 2 horizon 40 cost 40\n",
+};
+
+/// A run that only loads.
+const NOTHING: Row<'static> = Row {
+    script: b"",
+    replies: b"",
 };
 
 /// What is asked of a disk that a stop leaves, and what goes on there.
@@ -114,17 +120,15 @@ fn expect_plan_at(
     Ok(())
 }
 
-// The gate is opened by the eighth call. While that one's bytes are pending, either plan may be there.
-#[test]
-fn a_stop_leaves_the_old_plan_or_the_new_one(rt: HostRuntime) -> Result<(), RowError> {
-    let alloc = rt.alloc();
-    let machine = replaced(alloc)?;
+/// The gate is opened by the eighth call of a machine's run. While that one's bytes are pending, either plan may be
+/// there.
+fn expect_plans(alloc: Global, machine: &MemMachine) -> Result<(), RowError> {
     for moment in 0..8 {
-        expect_plan_at(alloc, &machine, moment, &[false])?;
+        expect_plan_at(alloc, machine, moment, &[false])?;
     }
-    expect_plan_at(alloc, &machine, 8, &[false, true])?;
+    expect_plan_at(alloc, machine, 8, &[false, true])?;
     for moment in 9..11 {
-        expect_plan_at(alloc, &machine, moment, &[true])?;
+        expect_plan_at(alloc, machine, moment, &[true])?;
     }
     if machine.moments() != 11 {
         return Err(RowError::Moments {
@@ -134,15 +138,35 @@ fn a_stop_leaves_the_old_plan_or_the_new_one(rt: HostRuntime) -> Result<(), RowE
     Ok(())
 }
 
-/// Each image that a stop may leave of the load of this disk answers by the same plan as the disk.
-fn expect_same(alloc: Global, image: Image) -> Result<(), RowError> {
-    let is_new = has_new_plan(alloc, copy_image(alloc, &image)?)?;
-    let mut load = machine_on(alloc, b"", image, &[])?;
-    expect_end(alloc, &mut load, 0, Status::Done, b"")?;
-    for left in whole_images(alloc, &load)? {
+#[test]
+fn a_stop_leaves_the_old_plan_or_the_new_one(rt: HostRuntime) -> Result<(), RowError> {
+    let alloc = rt.alloc();
+    let machine = replaced(alloc)?;
+    expect_plans(alloc, &machine)
+}
+
+/// Each image that a stop may leave of a machine's run answers by the new plan, or each by the old one.
+fn expect_plan(alloc: Global, machine: &MemMachine, is_new: bool) -> Result<(), RowError> {
+    for left in whole_images(alloc, machine)? {
         if has_new_plan(alloc, left)? != is_new {
             return Err(RowError::Changed { row: 0 });
         }
+    }
+    Ok(())
+}
+
+/// Each image that a stop may leave of the load of this disk answers by the same plan as the disk.
+fn expect_same(alloc: Global, image: Image) -> Result<(), RowError> {
+    let copy = copy_image(alloc, &image)?;
+    let load = machine_after(alloc, image, &NOTHING)?;
+    let is_new = has_new_plan(alloc, copy)?;
+    expect_plan(alloc, &load, is_new)
+}
+
+/// The same of each image that a stop may leave of a machine's run.
+fn expect_all_same(alloc: Global, machine: &MemMachine) -> Result<(), RowError> {
+    for image in whole_images(alloc, machine)? {
+        expect_same(alloc, image)?;
     }
     Ok(())
 }
@@ -153,8 +177,5 @@ fn a_stop_inside_the_load_that_follows_leaves_the_same_plan(
 ) -> Result<(), RowError> {
     let alloc = rt.alloc();
     let machine = replaced(alloc)?;
-    for image in whole_images(alloc, &machine)? {
-        expect_same(alloc, image)?;
-    }
-    Ok(())
+    expect_all_same(alloc, &machine)
 }

@@ -1,5 +1,5 @@
 //! Sublists that aren't what the entries of their plans say, asked for where other pages are kept.
-use crate::rows::cache::steps::{Step, expect_read, find_25, find_35, join_steps, step_of};
+use crate::rows::cache::steps::{Step, Whole, expect_read, find_25, find_35, join_steps, step_of};
 use machine_mem::MemMachine;
 use machine_model::Image;
 use rows_rig::{
@@ -19,22 +19,33 @@ fn changed_disk(alloc: Global) -> Result<Image, AllocError> {
     disk_with(alloc, &plan_of_v(40, &segments))
 }
 
-/// A run ends with status 8, where it reads the first sublist, and has shown these replies.
-fn expect_end(alloc: Global, machine: &mut MemMachine, replies: &[u8]) -> Result<(), RowError> {
+/// A run of a machine with so many steps ends with status 8, where it reads the first sublist. Answers what its disk
+/// holds then.
+fn run_damaged(
+    alloc: Global,
+    machine: &mut MemMachine,
+    count: usize,
+    whole: &Whole,
+) -> Result<Image, RowError> {
     let status = run_on(alloc, machine)?;
     let line = "tt_archive: damaged sublist at page 0: digest";
     expect_line(alloc, 0, status, 8, line)?;
-    expect_replies(alloc, machine, 0, replies)
+    expect_replies(alloc, machine, 0, &whole.replies)?;
+    expect_read(machine, count, whole.read)?;
+    read_image(alloc, machine)
+}
+
+/// The same of a machine on a copy of this disk.
+fn disk_left(alloc: Global, disk: &Image, count: usize, whole: &Whole) -> Result<Image, RowError> {
+    let copy = copy_image(alloc, disk)?;
+    let mut machine = machine_on(alloc, &whole.script, copy, &[])?;
+    run_damaged(alloc, &mut machine, count, whole)
 }
 
 /// A run of these steps ends with status 8, where the last one reads the first sublist. The disk is as it was.
 fn expect_damaged(alloc: Global, disk: &Image, steps: &[Step<'_>]) -> Result<(), RowError> {
     let whole = join_steps(alloc, steps)?;
-    let copy = copy_image(alloc, disk)?;
-    let mut machine = machine_on(alloc, &whole.script, copy, &[])?;
-    expect_end(alloc, &mut machine, &whole.replies)?;
-    expect_read(&machine, steps.len(), whole.read)?;
-    let left = read_image(alloc, &mut machine)?;
+    let left = disk_left(alloc, disk, steps.len(), &whole)?;
     expect_same(0, &left, disk)
 }
 

@@ -1,7 +1,7 @@
 //! Reads that fail, which end a run only where a page that isn't kept is asked for.
 use machine_mem::{CallKind, Fault, MemMachine};
 use machine_model::Image;
-use rows_rig::{RowError, copy_image, expect_end, first_disk, machine_on, run_on};
+use rows_rig::{RowError, copy_image, expect_last, first_disk, machine_on, run_on};
 use run_script::Status;
 use std::alloc::Global;
 
@@ -15,11 +15,16 @@ fn failing(alloc: Global, disk: &Image, script: &[u8], nth: u64) -> Result<MemMa
     machine_on(alloc, script, copy_image(alloc, disk)?, &[fault])
 }
 
+/// Whether the disk fails a machine's run.
+fn fails(alloc: Global, machine: &mut MemMachine) -> Result<bool, RowError> {
+    let status = run_on(alloc, machine)?;
+    Ok(status == Status::Disk)
+}
+
 /// Whether a load of the disk makes this read.
 fn makes(alloc: Global, disk: &Image, nth: u64) -> Result<bool, RowError> {
     let mut machine = failing(alloc, disk, b"", nth)?;
-    let status = run_on(alloc, &mut machine)?;
-    Ok(status == Status::Disk)
+    fails(alloc, &mut machine)
 }
 
 /// How many reads a load of the disk makes, which are at most 40.
@@ -54,17 +59,22 @@ const RUNS: [(u64, Status, &[u8]); 5] = [
     ),
 ];
 
+/// Each of these runs is so on the disk.
+fn expect_each(alloc: Global, disk: &Image) -> Result<(), RowError> {
+    let script = b"find 15 v\nfind 15 v\nfind 25 v\nfind 15 v\n";
+    let loaded = reads_of_a_load(alloc, disk)?;
+    for (row, (more, status, replies)) in RUNS.iter().enumerate() {
+        let nth = loaded.saturating_add(*more);
+        let machine = failing(alloc, disk, script, nth)?;
+        expect_last(alloc, machine, row, *status, replies)?;
+    }
+    Ok(())
+}
+
 // The load is followed by a read for the first question and one for the third.
 #[test]
 fn a_page_that_is_kept_is_answered_without_a_read(rt: HostRuntime) -> Result<(), RowError> {
     let alloc = rt.alloc();
     let disk = first_disk(alloc)?;
-    let script = b"find 15 v\nfind 15 v\nfind 25 v\nfind 15 v\n";
-    let loaded = reads_of_a_load(alloc, &disk)?;
-    for (row, (more, status, replies)) in RUNS.iter().enumerate() {
-        let nth = loaded.saturating_add(*more);
-        let mut machine = failing(alloc, &disk, script, nth)?;
-        expect_end(alloc, &mut machine, row, *status, replies)?;
-    }
-    Ok(())
+    expect_each(alloc, &disk)
 }

@@ -1,7 +1,7 @@
 //! More pages than are kept, and sublists of more than one page.
 use crate::rows::cache::steps::{Step, expect_run, step_of};
 use machine_model::Image;
-use rows_rig::{Row, RowError, disk_after, expect_same, many_lives, new_disk, put_lines};
+use rows_rig::{Row, RowError, disk_of, expect_same, many_lives, put_lines};
 use std::alloc::{AllocError, Global};
 
 /// A disk where document 1 has the word in [2i, 2i + 1) for each i from 1 to 1,025, with a plan. Each life has a
@@ -14,7 +14,7 @@ fn lives_disk(alloc: Global) -> Result<Image, RowError> {
         script: &script,
         replies: &replies,
     };
-    disk_after(alloc, &new_disk(alloc), &row)
+    disk_of(alloc, &row)
 }
 
 /// The rows of the first lives.
@@ -75,7 +75,7 @@ fn documents_disk(alloc: Global) -> Result<Image, RowError> {
         script: &script,
         replies: &replies,
     };
-    disk_after(alloc, &new_disk(alloc), &row)
+    disk_of(alloc, &row)
 }
 
 /// All of them.

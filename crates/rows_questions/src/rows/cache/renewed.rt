@@ -1,7 +1,7 @@
 //! Pages that are freed while they are kept, and written anew.
 use crate::rows::cache::steps::{Step, expect_steps, find_15, find_25, find_35, step_of};
 use machine_model::Image;
-use rows_rig::{Row, RowError, disk_after, expect_same, first_disk, flat_disk, new_disk};
+use rows_rig::{Row, RowError, disk_of, expect_same, first_disk, flat_disk};
 use std::alloc::Global;
 
 /// A step of a script that reads nothing of Pages.
@@ -90,7 +90,7 @@ const TWO_WORDS: Row<'static> = Row {
 /// The first plan of `v` lies in page 0 and is kept, its second in page 1. So that of `w` is written to page 0, with
 /// as many bytes.
 fn with_w_first(alloc: Global) -> Result<Image, RowError> {
-    let disk = disk_after(alloc, &new_disk(alloc), &TWO_WORDS)?;
+    let disk = disk_of(alloc, &TWO_WORDS)?;
     let steps = [
         change(
             b"plan v guarantee 1/1\n",

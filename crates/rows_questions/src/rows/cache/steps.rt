@@ -6,7 +6,7 @@ use run_script::Status;
 use std::alloc::{AllocError, Global};
 
 /// A part of a script.
-#[derive(Clone, Copy, Debug)]
+#[derive(Clone, Copy)]
 pub(crate) struct Step<'a> {
     /// Its items.
     pub(crate) script: &'a [u8],
@@ -53,7 +53,7 @@ pub(crate) fn over(read: u64) -> Step<'static> {
 }
 
 /// Steps in one run.
-#[derive(Debug, Drop)]
+#[derive(Drop)]
 pub(crate) struct Whole {
     /// The whole input.
     pub(crate) script: Vec<u8>,
@@ -89,6 +89,30 @@ pub(crate) fn expect_read(machine: &MemMachine, steps: usize, read: u64) -> Resu
     Ok(())
 }
 
+/// Runs a machine with so many steps to its end, and answers what its disk holds then.
+fn run_whole(
+    alloc: Global,
+    machine: &mut MemMachine,
+    count: usize,
+    whole: &Whole,
+) -> Result<Image, RowError> {
+    expect_end(alloc, machine, count, Status::Done, &whole.replies)?;
+    expect_read(machine, count, whole.read)?;
+    read_image(alloc, machine)
+}
+
+/// The same of a machine on a copy of this disk.
+fn expect_whole(
+    alloc: Global,
+    disk: &Image,
+    count: usize,
+    whole: &Whole,
+) -> Result<Image, RowError> {
+    let copy = copy_image(alloc, disk)?;
+    let mut machine = machine_on(alloc, &whole.script, copy, &[])?;
+    run_whole(alloc, &mut machine, count, whole)
+}
+
 /// These steps in one run, which comes to its end. Answers the disk that it leaves.
 pub(crate) fn expect_run(
     alloc: Global,
@@ -96,12 +120,7 @@ pub(crate) fn expect_run(
     steps: &[Step<'_>],
 ) -> Result<Image, RowError> {
     let whole = join_steps(alloc, steps)?;
-    let copy = copy_image(alloc, disk)?;
-    let mut machine = machine_on(alloc, &whole.script, copy, &[])?;
-    let count = steps.len();
-    expect_end(alloc, &mut machine, count, Status::Done, &whole.replies)?;
-    expect_read(&machine, count, whole.read)?;
-    read_image(alloc, &mut machine)
+    expect_whole(alloc, disk, steps.len(), &whole)
 }
 
 /// A run of the first step, one of the first two, and so on to all of them. Answers the disk that the last
