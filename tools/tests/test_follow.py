@@ -428,7 +428,7 @@ class Stops(Followed):
         ssh = self.folder / "bin" / "ssh"
         ssh.write_text(
             "#!/bin/sh\n# Runs here what is meant for there.\nhost=$1; shift\n"
-            f'case $host in away) echo no route >&2; exit 255;; dying) sh -c "$*" | head -c {self.size // 2}; exit 255;; chatty) echo welcome;; esac\n'
+            f'case $host in away) echo no route >&2; exit 255;; dying) sh -c "$*" | (head -c {self.size // 2}; cat >/dev/null); exit 255;; chatty) echo welcome;; esac\n'
             'exec sh -c "$*"\n'
         )
         ssh.chmod(0o755)
