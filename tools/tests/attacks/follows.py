@@ -155,12 +155,14 @@ def _cut_follower(program: str, whole: Whole, chance: random.Random) -> str:
                 pass
             shown = process.stdout.read() if kills else b""
             status, line = process.wait(), process.stderr.read().decode()
-        outcome = Outcome(shown, line, status)
-        count = len(read_journal(folder.files()[0]))
+        outcome, count = Outcome(shown, line, status), len(read_journal(folder.files()[0]))
         what = f"a follower that was given {size} bytes, and {'killed' if kills else 'whose reader went away'}"
-        cut = [Outcome(b"", f"tt_archive: bad packet at byte {at}\n", 15) for at in range(len(stream))] if size < len(stream) else []
-        allowed = KILLED if kills else SINK_FAULT
-        whole.check_cut(folder, outcome, [allowed, *cut], what)
+        if status in (0, 15) and size < len(stream):  # it came to the end of what it was given
+            difference = folder.difference_of(FOLLOW + stream[:size], outcome, *folder.files())
+            expect(not difference, f"{what}: {difference}")
+            whole.check_next(folder, b"", what)
+        else:
+            whole.check_cut(folder, outcome, [KILLED if kills else SINK_FAULT], what)
     return "left" if not kills else "amid" if whole.entries_before < count < len(whole.entries) else "killed"
 
 
