@@ -177,3 +177,13 @@ class ArchiveCase(unittest.TestCase):
                         texts[name] = reply.text.decode()
                 found.append(texts)
         return found
+
+
+class FourCase(ArchiveCase):
+    """A test over a collection of four archives; `one` is the archive beside it."""
+
+    def setUp(self) -> None:
+        super().setUp()
+        self.one = self.archive
+        self.archive = self.folder / "four"
+        self.tt("-C", self.one, "shard", 4, self.archive, "--empty")

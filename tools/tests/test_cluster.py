@@ -16,7 +16,7 @@ from pathlib import Path
 from typing import Any, Callable
 from unittest import mock
 
-from support import DAY, ArchiveCase, answers, changes_of, find_program, needs, sample
+from support import DAY, ArchiveCase, FourCase, answers, changes_of, find_program, needs, sample
 from tt_archive_tools import commands
 from tt_archive_tools.cluster import running
 from tt_archive_tools.cluster.asking import FEEDS
@@ -137,14 +137,11 @@ class Scripts(unittest.TestCase):
             self.assertEqual((found, len(cutter)), (whole, 0))
 
 
-class Clustered(ArchiveCase):
+class Clustered(FourCase):
     """Four archives, each with a copy, behind the door of a cluster that runs in this process."""
 
     def setUp(self) -> None:
         super().setUp()
-        self.one = self.archive
-        self.archive = self.folder / "four"
-        self.tt("-C", self.one, "shard", 4, self.archive, "--empty")
         for number in range(4):
             (self.folder / f"copy-{number}").mkdir()
         lines = [f"{self.archive}/shard-{n}\tdask:a\t{self.folder}/copy-{n}\tdask:b\n" for n in range(4)]

@@ -16,7 +16,7 @@ import unittest
 from pathlib import Path
 from typing import Any
 
-from support import DAY, TOOLS, ArchiveCase, answers, changes_of, find_program, sample
+from support import DAY, TOOLS, FourCase, answers, changes_of, find_program, sample
 from tt_archive_tools import commands
 from tt_archive_tools.cluster.asking import request
 from tt_archive_tools.collection import Collection
@@ -33,14 +33,8 @@ _FIND = "import sys; from importlib.util import find_spec; sys.exit(find_spec('d
 PYTHON = next((it for it in (sys.executable, "/usr/bin/python3") if os.access(it, os.X_OK) and not subprocess.run([it, "-c", _FIND]).returncode), "")
 
 
-class Started(ArchiveCase):
+class Started(FourCase):
     """A collection of four archives, each with a copy, and a cluster that is started."""
-
-    def setUp(self) -> None:
-        super().setUp()
-        self.one = self.archive
-        self.archive = self.folder / "four"
-        self.tt("-C", self.one, "shard", 4, self.archive, "--empty")
 
     def write_table(self, copies: bool, worker: str = "") -> None:
         """Archive n on worker n; its copy on the next one."""
